@@ -9,20 +9,20 @@ use Rattle.pmg_script.specs.declared.playing.Ended.{Ended}
 use Rattle.pmg_script.specs.declared.playing.Ended.TheVariants as ends
 use Rattle.pmg_commands.specs.Output.{Output, Prints, status_alone, failure_output}
 
--- The first lines of the text were done, from no group at all to what they made of one, and their replies were written; and it ended there.
+-- The script was replayed: its first lines were carried out, starting without a group, their replies were written, and it ended this way.
 abbrev pub IsScriptReplayed : List ℕ → Option (List ℕ) → Option (List ℕ) → Option (List ℕ) → Result Ended Failure → Type 0
 IsScriptReplayed text left old new ended = Replayed PlaysLine StopsLine is_over phases.Fresh text left old new ended
 
--- What is left to print once a script has ended, and the status: nothing at its end; nothing where its nodes were refused, since the
--- reply says so; else the line of what failed.
+-- The output that remains at the end of a script, and the status. It is empty at the script's end, and if its nodes were refused, since
+-- the reply says it. Else it is the line of the failure.
 abbrev pub script_output : Result Ended Failure → Output
 script_output (Ok ends.AtEnd) = status_alone 0
 script_output (Ok ends.Over) = status_alone 1
 script_output (Err failure) = failure_output failure
 
--- What `replay` prints for a text, and its status: the replies of the lines that were done, up to where the script ended, and then what
--- is left to print. Where it ended with a read fault the reader did fail, and where the reader fails that is told; where it ended with a
--- write fault the writer did fail.
+-- The output of `replay` for a text, and its status: the replies of the lines up to the script's end, and then the output that remains. If
+-- the script ended with a read fault, the reader failed. A reader that fails, and had not failed before, ends the script with a read
+-- fault. If the script ended with a write fault, the writer failed.
 pub record PrintsReplies {D E : Type 0} (text : List ℕ) (left old new : Option (List ℕ)) (before read : Option D) (write : Option E)
     (status : ℕ) : Type 0 where
   pub ended : Result Ended Failure

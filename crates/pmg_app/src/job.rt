@@ -20,21 +20,21 @@ use std::sync::Wait;
 use std::thread::Threads;
 use std::time::Clock;
 
-/// What came of a job, with what is printed of its run.
+/// The outcome of a job, with the text that is printed of its run.
 #[derive(Drop)]
 struct Ran {
     outcome: Outcome,
     audited: Vec<u8>,
 }
 
-/// Reads a job as JSON to its end, runs these programs as its processes, by namespace and rank, prints their reports, the far dump
-/// of node 0 and `audit ok`, and answers the status. Programs past the number of the processes are dropped.
+/// Reads a job as JSON to its end, and runs these programs as its processes, by namespace and rank. Prints their reports, the far dump of
+/// node 0 and `audit ok`, and returns the status. Programs past the number of the processes are dropped.
 ///
-/// Nothing is printed before the job has ended and was audited. A client whose program had no memory for its report has the line
-/// `client NS RANK refused 0 NoMemory`. Status 1 for a refused job, where a client's program answered a
-/// refusal, for a read fault and a write fault, 3 where an allocation failed, 4 where the audit found a fault. A refusal of the job, a
-/// read fault and an audit's fault print a line, and a reader that failed is always told as a read fault; where the writer fails,
-/// nothing more is printed. What came of the job is not dropped: the program ends after it is printed.
+/// The function prints nothing before the job has ended and was audited. A client whose program had no memory for its report has the line
+/// `client NS RANK refused 0 NoMemory`. The status is 1 for a refused job, a read fault and a write fault, and if a client's program
+/// returned a refusal. It is 3 if an allocation failed, and 4 if the audit found a fault. A refusal of the job, a read fault and an
+/// audit's fault print a line. A failure of the reader is always reported as a read fault. If the writer fails, nothing more is printed.
+/// The outcome of the job is leaked on purpose: the program ends after it is printed.
 pub fn run_job<T: Threads + Wait + Clock + Sync, R: Read, W: Write>(
     rt: &T,
     alloc: Global,
@@ -53,7 +53,7 @@ pub fn run_job<T: Threads + Wait + Clock + Sync, R: Read, W: Write>(
     match read_and_run(rt, alloc, programs, reader) {
         Ok(ran) => {
             let status = print_outcome(writer, &ran.outcome, &ran.audited);
-            // The program ends now, and what it holds goes back as a whole: to take the run apart would only take time.
+            // The program ends now and frees its memory as a whole: taking the run apart would only cost time.
             mem::forget(ran);
             status
         }
@@ -97,7 +97,7 @@ fn run_text<T: Threads + Wait + Clock + Sync>(
     run(rt, job, programs)
 }
 
-/// The far dump of the first node, as the run leaves it; nothing, where the group has no nodes.
+/// Returns the far dump of the first node at the end of the run; an empty text if the group has no nodes.
 fn far_dump(alloc: Global, run: &Run) -> Result<Vec<u8>, Refusal>
     ensures ok { IfOk result (λ text. text.items ≡ far_text run.now) }
     ensures err { IfErr result (λ e. e ≡ refusals.NoMemory) }
@@ -109,7 +109,7 @@ fn far_dump(alloc: Global, run: &Run) -> Result<Vec<u8>, Refusal>
     }
 }
 
-/// The same, and that the run was audited.
+/// Returns the far dump of the first node, and the line `audit ok`.
 #[tactic(auto, unfolding(crate::specs::Job::audited_text))]
 fn audited_text(alloc: Global, run: &Run) -> Result<Vec<u8>, Refusal>
     ensures ok { IfOk result (λ text. text.items ≡ audited_text run.now) }
@@ -120,7 +120,7 @@ fn audited_text(alloc: Global, run: &Run) -> Result<Vec<u8>, Refusal>
     Ok(text)
 }
 
-/// Prints why nothing came of a job, and answers the status.
+/// Prints why a job has no outcome, and returns the status.
 fn print_failure<W: Write>(writer: &mut WatchedWriter<W>, failure: Failure) -> u8
     ensures printed { Prints (W.contents writer.old.writer) (W.contents writer.new.writer) writer.new.failure
         result (job_failure failure) }
@@ -133,7 +133,7 @@ fn print_failure<W: Write>(writer: &mut WatchedWriter<W>, failure: Failure) -> u
     }
 }
 
-/// Whether an audit finds such a fault.
+/// Returns whether an audit finds such a fault.
 fn is_audit_fault(refusal: Refusal) -> bool
     ensures { result ≡ is_audit_fault refusal }
 {
@@ -143,7 +143,7 @@ fn is_audit_fault(refusal: Refusal) -> bool
     )
 }
 
-/// Prints the fault that the audit found, and answers the status.
+/// Prints the fault that the audit found, and returns the status.
 fn print_audit_fault<W: Write>(writer: &mut WatchedWriter<W>, refusal: Refusal) -> u8
     ensures printed { Prints (W.contents writer.old.writer) (W.contents writer.new.writer) writer.new.failure
         result (audit_output refusal) }
@@ -154,7 +154,7 @@ fn print_audit_fault<W: Write>(writer: &mut WatchedWriter<W>, refusal: Refusal) 
     finish(writer, AUDIT_FAULT)
 }
 
-/// Prints the reports, and after them this, which is told of the run, and answers the status.
+/// Prints the reports and then the text about the run, and returns the status.
 fn print_outcome<W: Write>(writer: &mut WatchedWriter<W>, outcome: &Outcome, audited: &[u8]) -> u8
     requires { audited.now ≡ audited_text outcome.now.run }
     ensures printed { Prints (W.contents writer.old.writer) (W.contents writer.new.writer) writer.new.failure
@@ -166,7 +166,7 @@ fn print_outcome<W: Write>(writer: &mut WatchedWriter<W>, outcome: &Outcome, aud
     finish(writer, status_of(outcome))
 }
 
-/// The reports, and after them what is told of the run.
+/// Writes the reports, and then the text about the run.
 #[tactic(auto, using(pmg_value::proofs::WrittenLemmas::written_in_parts), unfolding(crate::specs::Job::outcome_text))]
 fn write_outcome<W: Write>(
     writer: &mut WatchedWriter<W>,
@@ -181,7 +181,7 @@ fn write_outcome<W: Write>(
     writer.put_text(audited)
 }
 
-/// The reports, in their order.
+/// Writes the reports, in their order.
 fn write_reports<W: Write>(
     writer: &mut WatchedWriter<W>,
     reports: &[Report],
@@ -195,7 +195,7 @@ fn write_reports<W: Write>(
     Ok(())
 }
 
-/// Writes what the client's program wrote, or the line of one that had no memory for its report.
+/// Writes the text that the client's program wrote, or the line of a client without memory for its report.
 #[tactic(auto, unfolding(crate::specs::Job::report_text))]
 fn write_report<W: Write>(writer: &mut WatchedWriter<W>, report: &Report) -> Result<(), WriteFault>
     ensures text { Writes (W.contents writer.old.writer) (W.contents writer.new.writer) result (report_text report.now) }
@@ -208,14 +208,14 @@ fn write_report<W: Write>(writer: &mut WatchedWriter<W>, report: &Report) -> Res
     }
 }
 
-/// Whether the client's program had no memory for its report: it wrote nothing, and answered NoMemory.
+/// Returns whether the client's program had no memory for its report: it wrote nothing, and returned NoMemory.
 fn is_unreported(report: &Report) -> bool
     ensures { result ≡ is_unreported report.now }
 {
     report.text.is_empty() && matches!(report.answer, Err(Refusal::NoMemory))
 }
 
-/// Writes the line of a client that had no memory for its report.
+/// Writes the line of a client without memory for its report.
 #[tactic(auto, using(pmg_value::proofs::WrittenLemmas::written_in_parts), unfolding(crate::specs::Job::unreported_line, crate::specs::Job::client_refusal))]
 fn write_unreported<W: Write>(writer: &mut WatchedWriter<W>, proc: &Proc) -> Result<(), WriteFault>
     ensures text { Writes (W.contents writer.old.writer) (W.contents writer.new.writer) result (unreported_line proc.now) }
@@ -235,7 +235,7 @@ fn write_client_name<W: Write>(writer: &mut WatchedWriter<W>, proc: &Proc) -> Re
     writer.put_number(u64::from(proc.rank.number()))
 }
 
-/// The status of the outcome where all was printed.
+/// Returns the status of the outcome after everything was printed.
 #[tactic(auto, unfolding(crate::specs::Job::outcome_status))]
 fn status_of(outcome: &Outcome) -> u8
     ensures value { result ≡ outcome_status outcome.now }
@@ -248,7 +248,7 @@ fn status_of(outcome: &Outcome) -> u8
     }
 }
 
-/// Whether no client's program answered a refusal.
+/// Returns whether no client's program returned a refusal.
 fn are_done(reports: &[Report]) -> bool
     ensures { result ≡ list_all is_done reports.now }
 {

@@ -1,5 +1,5 @@
-//! The library of `pmixgroup`, which shows the servers of a PMIx group as text: what their frames tell, and what they do as a
-//! script or a job says. Each command of the program is a function over a reader and a writer, which answers the status.
+//! The library of `pmixgroup`, which shows the servers of a PMIx group as text: the content of their frames, and their actions in a script
+//! or a job. Each command of the program is a function over a reader and a writer, which returns the status.
 #![tactic(auto)]
 
 ghost use Rattle.std.specs.Prelude.{◌≡◌, ◌≤◌, ◌+◌, ◌⊎◌, ℕ, IfOk, IfSome, IsNone, IsTrue, vec_len};
@@ -26,8 +26,8 @@ use std::sync::Wait;
 use std::thread::Threads;
 use std::time::Clock;
 
-/// Carries out what the command line asks for, from standard input to standard output. Why one of them failed is told
-/// on standard error. The processes of a job run these programs.
+/// Carries out the request of the command line, from standard input to standard output. It reports on standard error why one of them
+/// failed. The processes of a job run these programs.
 pub fn run(
     rt: &(impl Env + Input + Print + Eprint + AllocGlobal + Threads + Wait + Clock + Sync),
     programs: Vec<Box<dyn Program>>,
@@ -42,7 +42,7 @@ pub fn run(
     Ok(status)
 }
 
-/// Carries out what was chosen, and answers the status. A job's processes run these programs.
+/// Carries out the chosen command, and returns the status. A job's processes run these programs.
 pub fn carry_out<T: AllocGlobal + Threads + Wait + Clock + Sync, R: BufRead, W: Write>(
     rt: &T,
     chosen: Chosen,

@@ -12,12 +12,12 @@ use std::alloc::Global;
 use std::io::{BufRead, Write};
 use std::mem;
 
-/// Reads a script line by line, does each line and prints its reply, and answers the status.
+/// Reads a script line by line, carries out each line, prints its reply, and returns the status.
 ///
-/// A reply is printed before the next line is read. Status 1 where the nodes of the script were refused, for a line that
-/// is none, a script that is too long, a read fault and a write fault, 3 where an allocation failed. A fault of the script,
-/// a read fault and an allocation that failed print a line after the replies; where the writer fails, nothing more is
-/// printed. The stage on which the lines are done is not dropped: the program ends after its script.
+/// A reply is printed before the next line is read. The status is 1 if the nodes of the script were refused, for a line of no known form,
+/// and for a script that is too long. It is also 1 for a read fault and a write fault, and 3 if an allocation failed. A fault of the
+/// script, a read fault and a failed allocation print a line after the replies. If the writer fails, nothing more is printed. The stage
+/// that carries out the lines is leaked on purpose: the program ends after its script.
 pub fn run_replay<R: BufRead, W: Write>(
     alloc: Global,
     reader: &mut WatchedReader<R>,
@@ -32,12 +32,12 @@ pub fn run_replay<R: BufRead, W: Write>(
 {
     let mut stage = Stage::new(alloc);
     let ended = replay(alloc, &mut stage, reader, writer);
-    // The program ends now, and what it holds goes back as a whole: to take the stores of its nodes apart would only take time.
+    // The program ends now and frees its memory as a whole: taking the stores of its nodes apart would only cost time.
     mem::forget(stage);
     conclude_script(writer, ended)
 }
 
-/// Ends the command where the script ended so.
+/// Ends the command after a script with this ending, and returns the status.
 fn conclude_script<W: Write>(writer: &mut WatchedWriter<W>, ended: Result<Ended, Failure>) -> u8
     ensures printed { Prints (W.contents writer.old.writer) (W.contents writer.new.writer) writer.new.failure
         result (script_output ended) }

@@ -1,4 +1,4 @@
--- How far an order of the moves of several nodes has come.
+-- The progress of an order of the moves of several nodes.
 use Rattle.std.specs.Prelude.{◌≡◌, ℕ, suc, ◌+◌, List, [], ◌∷◌, ◌++◌, length, set}
 use Rattle.std.specs.List.{flat_map}
 use Rattle.pmg_value.specs.Lists.{In, Each}
@@ -12,7 +12,7 @@ abbrev pub MayGoNext : ℕ → List Move → List Sent → Type 0
 MayGoNext n [] frames = ⊥
 MayGoNext n (m ∷ ms) frames = MayGo n m.act frames
 
--- so much is left of each node; the node's next move may come
+-- the node's next move may come, with these remaining moves
 abbrev pub IsReady : List (List Move) → List Sent → ℕ → Type 0
 IsReady rest frames n = MayGoNext n (moves_at rest n) frames
 
@@ -23,42 +23,42 @@ pub record IsNext (rest : List (List Move)) (frames : List Sent) (n : ℕ) (e : 
   pub there : moves_at rest n ≡ next ∷ later
   pub event : IsEventOf frames n next.act e
 
--- the move is the node's next one, and without it so much is left
+-- the move is the node's next one, and these moves remain after it
 pub record IsTaken (rest : List (List Move)) (n : ℕ) (m : Move) (rest2 : List (List Move)) : Type 0 where
   pub later : List Move
   pub there : moves_at rest n ≡ m ∷ later
   pub left : rest2 ≡ set rest n later
 
--- the node has moves that are left
+-- the node has remaining moves
 abbrev pub IsOpen : List (List Move) → ℕ → Type 0
 IsOpen rest n = moves_at rest n ≡ [] → ⊥
 
--- the frames that these moves sent
+-- the sent frames of these moves
 abbrev pub frames_of : List Move → List Sent
 frames_of ms = flat_map (λ (m : Move). m.frames) ms
 
--- the moves before what is left of them are done: these frames were sent
+-- the moves before the remaining ones are done: these frames were sent
 pub record AreDone (frames : List Sent) (ms rest : List Move) : Type 0 where
   pub done : List Move
   pub cut : ms ≡ done ++ rest
   pub sent : Each (λ s. In s frames) (frames_of done)
 
--- So much is left of all moves, and these frames were sent and these events told by then. What is told of an order of what is left is
--- told of all of them, after these.
+-- The progress of an order: these moves remain, and these frames were sent and these events ordered by then. An order of the remaining
+-- moves, after these events, is an order of all moves.
 pub record IsOrderGoing (all rest : List (List Move)) (frames : List Sent) (told : List Happened) : Type 0 where
   pub covered : (n : ℕ) → AreDone frames (moves_at all n) (moves_at rest n)
   pub sound : (order : List ℕ) (others : List Happened) (final : List Sent) → TellsMoves (moves_at rest) frames order others final → AreTold all (told ++ others) final
 
--- how many moves these are, with the frames that they sent
+-- the number of these moves and of their sent frames
 abbrev pub weight : List Move → ℕ
 weight [] = 0
 weight (m ∷ ms) = suc (length m.frames) + weight ms
 
--- the weight of all that is left
+-- the weight of all remaining moves
 abbrev pub left : List (List Move) → ℕ
 left [] = 0
 left (ms ∷ rest) = weight ms + left rest
 
--- some node has moves that are left
+-- some node has remaining moves
 abbrev pub SomeOpen : List (List Move) → Type 0
 SomeOpen rest = (n : ℕ) × IsOpen rest n

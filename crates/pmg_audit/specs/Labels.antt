@@ -1,4 +1,4 @@
--- What frames that were sent are looked for by.
+-- The labels under which sent frames are found.
 use Rattle.std.specs.Prelude.{ℕ, List, [], ◌∷◌}
 use Rattle.std.specs.Ordering.{nat_cmp, ordering_then}
 use Rattle.std.specs.declared.cmp.Ordering.{Ordering}
@@ -18,11 +18,11 @@ first_rank (p ∷ ps) = p.rank
 abbrev pub about_commits : ℕ → ℕ → ℕ → Proc → ℕ → Label
 about_commits to kind number p other = record { number = number; of = p.rank; other = other; to = to; kind = kind }
 
--- the label of a frame of that kind in which the node tells or asks of the fence
+-- the label of a frame of that kind in which the node answers or asks about the fence
 abbrev pub about_fence : ℕ → ℕ → ℕ → FenceName → Label
 about_fence to kind node f = record { number = f.instance; of = node; other = first_rank (participants_of f); to = to; kind = kind }
 
--- The label of a frame that goes to that node: the node, the frame's kind, and three numbers that it says.
+-- The label of a frame that goes to that node: the node, the frame's kind, and three numbers in the frame.
 abbrev pub label_of : ℕ → Frame → Label
 label_of to (frames.Piece c) = about_commits to 1 c.to c.proc c.from
 label_of to (frames.Header h) = about_fence to 2 h.node h.name

@@ -1,4 +1,4 @@
--- What holds of journals that are replayed and put into an order.
+-- The laws of journals that are replayed and put into an order.
 use Rattle.std.specs.Prelude.{List, map}
 use Rattle.pmg_jobinfo.specs.Jobs.{Jobs, AreJobs}
 use Rattle.pmg_node.specs.Servers.{Server}
@@ -13,8 +13,8 @@ use Rattle.pmg_audit.specs.Orders.{AreTold}
 use Rattle.pmg_audit.specs.OneRun.{IsOneRun}
 use Rattle.pmg_audit.specs.Runs.{AreEnds, AreJournals, AreMoves, ArePut}
 
--- Journals that are replayed, whose clients' transcripts tell the same, and that are told in some order in which each frame is delivered
--- after it was sent, are one run.
+-- Journals are one run if they are replayed, if their clients' transcripts agree with them, and if some order delivers each frame after it
+-- was sent.
 abbrev pub MovesAreOneRun : Type 0
 MovesAreOneRun =
     (jobs : Jobs) → AreJobs jobs → (js : List Journal) (ts : List Transcript) → AreJournals jobs js → (all : List (List Move)) → AreMoves jobs js all → ArePut jobs all

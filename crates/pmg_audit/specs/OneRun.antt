@@ -7,9 +7,9 @@ use Rattle.pmg_journal.specs.declared.transcript.Transcript.{Transcript}
 use Rattle.pmg_audit.specs.Agreeing.{AreAgreed}
 use Rattle.pmg_audit.specs.Runs.{AreJournals, events_at, journal_at}
 
--- The account is a run of the model, of which the laws of every run hold. What it tells of each node is the node's journal, each event
--- once and in its order, each commit with what its client put since the one before; and journals and transcripts tell the same: each
--- event that a process made stands in its transcript, of which it has one.
+-- The account is a run of the model, for which the laws of every run hold. Its events at each node are the node's journal, each once and
+-- in its order. Each commit carries its client's puts since the previous one. Journals and transcripts agree: each event that a process
+-- made is in the process's only transcript.
 pub record IsOneRun (js : List Journal) (ts : List Transcript) (a : Account) : Type 0 where
   pub run : IsRun a
   pub lawful : IsAccountLawful a

@@ -1,4 +1,4 @@
--- An order of what happened at several nodes, and what is told in it.
+-- An order of the events at several nodes, and the events that it gives.
 use Rattle.std.specs.Prelude.{◌≡◌, ℕ, ◌==◌, List, [], ◌∷◌, ◌++◌, map, Option, Some, None, slice_get, if◌then◌else◌}
 use Rattle.pmg_value.specs.Lists.{In}
 use Rattle.pmg_value.specs.declared.process.Proc.{Proc}
@@ -15,16 +15,16 @@ MayGo n (Act.deliver frame) frames = In (sent n frame) frames
 MayGo n (Act.request r) frames = Unit {0}
 MayGo n (Act.commit p b) frames = Unit {0}
 
--- the node has these moves left, and the others what they had
+-- the node has these remaining moves, and the others are unchanged
 abbrev pub put_rest : (ℕ → List Move) → ℕ → List Move → ℕ → List Move
 put_rest js n rest k = if k == n then rest else js k
 
--- The moves that are left can come in this order of their nodes, where these frames were sent before.
+-- The remaining moves can come in this order of their nodes, if these frames were sent before.
 unfoldable pub Goes : (ℕ → List Move) → List Sent → List ℕ → Type 0
 Goes js frames [] = (n : ℕ) → js n ≡ []
 Goes js frames (n ∷ order) = (m : Move) × (rest : List Move) × (js n ≡ m ∷ rest) × MayGo n m.act frames × Goes (put_rest js n rest) (frames ++ m.frames) order
 
--- the moves; none, where there is no such node
+-- the moves; empty if there is no such node
 abbrev pub list_or_none : Option (List Move) → List Move
 list_or_none None = []
 list_or_none (Some ms) = ms
@@ -33,13 +33,13 @@ list_or_none (Some ms) = ms
 abbrev pub moves_at : List (List Move) → ℕ → List Move
 moves_at all n = list_or_none (slice_get all n)
 
--- ---- what is told
+-- ---- the ordered events
 
 -- the event with its reply
 abbrev pub event_happened : Event → Reply → Happened
 event_happened event reply = record { event = event; reply = reply }
 
--- the act of the node, as an event of the world, where these frames were sent before
+-- the act of the node, as an event of the world, if these frames were sent before
 abbrev pub IsEventOf : List Sent → ℕ → Act → Event → Type 0
 IsEventOf frames n (Act.commit p b) e = e ≡ Event.commit n p
 IsEventOf frames n (Act.request r) e = e ≡ Event.request n r
@@ -49,19 +49,19 @@ IsEventOf frames n (Act.deliver frame) e = (i : ℕ) × (e ≡ Event.deliver i) 
 abbrev pub put_told : Proc → Put → Happened
 put_told p x = event_happened (Event.put p x.scope x.key x.value) Reply.done
 
--- the puts of the process that calls, as such events; none, where no process calls
+-- the puts of the calling process, as such events; empty if no process calls
 abbrev pub puts_told : Option Proc → List Put → List Happened
 puts_told None puts = []
 puts_told (Some p) puts = map (put_told p) puts
 
--- The moves that are left, in this order of their nodes, are told so, each after the puts before it; and these frames were sent then.
+-- The remaining moves, in this order of their nodes, give these events, each after the puts before it, and these frames were sent then.
 unfoldable pub TellsMoves : (ℕ → List Move) → List Sent → List ℕ → List Happened → List Sent → Type 0
 TellsMoves js frames [] xs all = ((n : ℕ) → js n ≡ []) × (xs ≡ []) × (all ≡ frames)
 TellsMoves js frames (n ∷ order) xs all =
     (m : Move) × (rest : List Move) × (e : Event) × (others : List Happened) × (js n ≡ m ∷ rest) × IsEventOf frames n m.act e
     × (xs ≡ puts_told (caller_of m.act) m.puts ++ event_happened e m.reply ∷ others) × TellsMoves (put_rest js n rest) (frames ++ m.frames) order others all
 
--- all moves are told so in some order, in which these frames are sent
+-- all moves in some order give these events, in which these frames are sent
 unfoldable pub AreTold : List (List Move) → List Happened → List Sent → Type 0
 AreTold all told frames = (order : List ℕ) × TellsMoves (moves_at all) [] order told frames
 

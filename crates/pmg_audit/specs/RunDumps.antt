@@ -6,7 +6,7 @@ use Rattle.pmg_store.specs.declared.failure.Failure.{Failure}
 use Rattle.pmg_store.specs.declared.failure.Failure.TheVariants as failures
 use Rattle.pmg_node.specs.Servers.{Server}
 
--- what is written of the node: what it tells other nodes; nothing, where there is no such node
+-- the due dump of the node: the dump of its knowledge for other nodes; a refusal if there is no such node
 abbrev pub dump_due : Option Server → Result (List ℕ) Failure
 dump_due None = Err (failures.Refused refusals.BadParam)
 dump_due (Some s) = Ok (dump s.holding.far)

@@ -1,4 +1,4 @@
--- What a run, journals and transcripts tell of each node and each process.
+-- The parts of a run, of journals and of transcripts for each node and each process.
 use Rattle.std.specs.Prelude.{◌≡◌, ℕ, ◌<◌, ◌==◌, List, [], ◌∷◌, length, map, Option, Some, None, slice_index_or, if◌then◌else◌}
 use Rattle.std.specs.List.{filter}
 use Rattle.std.specs.Option.{option_map}
@@ -24,21 +24,21 @@ use Rattle.pmg_audit.specs.Moves.{Move, PutsFit, Replays, server_after, event_in
 use Rattle.pmg_audit.specs.Orders.{moves_at}
 use Rattle.pmg_journal.specs.Calling.{is_by}
 
--- ---- what a run tells of its nodes
+-- ---- the events of a run at its nodes
 
--- At which node an event is, and what happened there; a put is at none. A commit carries what its process put that no commit sealed.
+-- The node of an event, and its event in the journal; a put has no node. A commit carries its process's puts that no commit sealed.
 abbrev pub place_of : Scripts → List Sent → Event → Reply → Option (ℕ × Happening)
 place_of scripts frames (Event.put p scope key value) r = None
 place_of scripts frames (Event.commit node p) r = Some (node, happening (Act.commit p (unsealed_of (cache_of (scripts p)))) r)
 place_of scripts frames (Event.request node q) r = Some (node, happening (Act.request q) r)
 place_of scripts frames (Event.deliver i) r = option_map (λ s. (s.to, happening (Act.deliver s.frame) r)) (numbered frames i)
 
--- what happened at the node, with this in front where it happened there
+-- the events at the node, with this one in front if it is at the node
 abbrev pub with_place : ℕ → Option (ℕ × Happening) → List Happening → List Happening
 with_place n None es = es
 with_place n (Some x) es = if n == x.0 then x.1 ∷ es else es
 
--- what happened at the node, in its order
+-- the events at the node, in their order
 unfoldable pub events_at : Jobs → Scripts → List Sent → ℕ → List Happened → List Happening
 events_at jobs scripts frames n [] = []
 events_at jobs scripts frames n (x ∷ xs) =
@@ -46,7 +46,7 @@ events_at jobs scripts frames n (x ∷ xs) =
 
 -- ---- journals
 
--- what the journal of the node tells
+-- the events of the node's journal
 abbrev pub journal_at : List Journal → ℕ → List Happening
 journal_at [] n = []
 journal_at (j ∷ js) n = if j.node == n then happened_in j else journal_at js n
@@ -63,27 +63,27 @@ pub record AreJournals (jobs : Jobs) (js : List Journal) : Type 0 where
 
 -- ---- transcripts
 
--- the events that the process made at its home
+-- the events of the process at its home
 abbrev pub made_by : Jobs → List Journal → Proc → List Happening
 made_by jobs js p = filter (λ e. is_by p e.act) (journal_at js (home_of jobs p))
 
--- the transcript's events are those that its process made at its home
+-- the transcript's events are the events of its process at its home
 abbrev pub TellsOf : Jobs → List Journal → Transcript → Type 0
 TellsOf jobs js t = map due_event (dues_of t) ≡ made_by jobs js t.proc
 
 -- ---- moves
 
--- moves that are the journals, replayed
+-- the moves are the replayed journals
 pub record AreMoves (jobs : Jobs) (js : List Journal) (all : List (List Move)) : Type 0 where
   pub count : length all ≡ length jobs.nodes
   pub events : (n : ℕ) → n < length jobs.nodes → map event_in (moves_at all n) ≡ journal_at js n
   pub replays : (n : ℕ) → n < length jobs.nodes → Replays (new_server jobs n) (moves_at all n)
 
--- the puts before them are those of their clients, and commits carry them
+-- the puts before the moves fit their clients' caches, and commits carry them
 unfoldable pub ArePut : Jobs → List (List Move) → Type 0
 ArePut jobs all = (p : Proc) → PutsFit p no_puts (moves_at all (home_of jobs p))
 
--- these are the nodes after all of them
+-- these are the nodes after all moves
 pub record AreEnds (jobs : Jobs) (all : List (List Move)) (nodes : List Server) : Type 0 where
   pub count : length nodes ≡ length jobs.nodes
   pub each : (n : ℕ) (d : Server) → n < length nodes → slice_index_or nodes n d ≡ server_after (new_server jobs n) (moves_at all n)

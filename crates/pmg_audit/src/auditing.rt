@@ -1,4 +1,4 @@
-//! Whether journals and transcripts are one run.
+//! The check that journals and transcripts are one run.
 ghost use Rattle.std.specs.Prelude.{◌≡◌, ◌<◌, ◌⊎◌, ℕ, true, false, length, map, IfOk, IfErr};
 ghost use Rattle.pmg_value.specs.Lists.{Each, In};
 ghost use Rattle.pmg_jobinfo.specs.Jobs.{AreJobs};
@@ -19,7 +19,7 @@ use pmg_node::Server;
 use pmg_value::{NodeId, Refusal};
 use std::alloc::Global;
 
-/// Whether one of the journals is the node's.
+/// Returns whether one of the journals is the node's.
 fn has_journal(journals: &[Record], node: NodeId) -> bool
     ensures some { result ≡ true → HasJournal journals.now node }
     ensures none { result ≡ false → Each (λ (j : JournalOf). j.node ≡ node → ⊥) journals.now }
@@ -32,7 +32,7 @@ fn has_journal(journals: &[Record], node: NodeId) -> bool
     false
 }
 
-/// Whether each journal is of a node of that group.
+/// Returns whether each journal is of a node of that group.
 fn are_of(journals: &[Record], registry: &Registry) -> bool
     ensures all { result ≡ true → Each (λ (j : JournalOf). j.registry ≡ registry.now) journals.now }
     ensures other { result ≡ false → Each (λ (j : JournalOf). j.registry ≡ registry.now) journals.now → ⊥ }
@@ -45,7 +45,7 @@ fn are_of(journals: &[Record], registry: &Registry) -> bool
     true
 }
 
-/// Whether each node of the group has a journal.
+/// Returns whether each node of the group has a journal.
 fn have_all(journals: &[Record], registry: &Registry) -> bool
     ensures all { result ≡ true → (n : ℕ) → n < length registry.now.nodes → HasJournal journals.now n }
     ensures other { result ≡ false → ((n : ℕ) → n < length registry.now.nodes → HasJournal journals.now n) → ⊥ }
@@ -59,7 +59,7 @@ fn have_all(journals: &[Record], registry: &Registry) -> bool
     true
 }
 
-/// Whether there is one journal for each node of that group.
+/// Returns whether there is one journal for each node of that group.
 fn are_journals(journals: &[Record], registry: &Registry) -> bool
     ensures are { result ≡ true → AreJournals registry.now journals.now }
     ensures other { result ≡ false → AreJournals registry.now journals.now → ⊥ }
@@ -74,7 +74,7 @@ fn are_journals(journals: &[Record], registry: &Registry) -> bool
     have_all(journals, registry)
 }
 
-/// The replays of all journals, of which all that is said is told.
+/// Replays all journals, and checks that all claims of the clients are matched.
 fn replays_with(
     alloc: Global,
     registry: &Registry,
@@ -89,7 +89,7 @@ fn replays_with(
     replays_among(alloc, registry, journals, &mut sayings)
 }
 
-/// The replays of all journals, of which all that is said is told; what is said is used up.
+/// Replays all journals, and checks that all claims of the clients are matched. The claims are used up.
 fn replays_among(
     alloc: Global,
     registry: &Registry,
@@ -118,8 +118,8 @@ fn replays_among(
     }
 }
 
-/// The replays of all journals, of which the transcripts tell the same. Refused as Collision where they do not, and as Stale where a
-/// reply on replay is another.
+/// Replays all journals, and checks that the transcripts agree with them. Errors: `Collision` if they do not agree; `Stale` if a reply on
+/// replay differs; `NoMemory`.
 fn replays_of(
     alloc: Global,
     registry: &Registry,
@@ -137,7 +137,7 @@ fn replays_of(
     }
 }
 
-/// The run that leaves these nodes, in that order.
+/// Makes the run that leaves these nodes, in that order.
 fn run_with(registry: Registry, nodes: Vec<Server>, order: Order) -> Run
     requires run { IsRun (account_by registry nodes.items order.sent.items order.told.items) }
     requires lawful { IsAccountLawful (account_by registry nodes.items order.sent.items order.told.items) }
@@ -152,7 +152,7 @@ fn run_with(registry: Registry, nodes: Vec<Server>, order: Order) -> Run
     }
 }
 
-/// The one run of that group that the journals and the transcripts tell.
+/// Makes the one run of that group that the journals and the transcripts record.
 fn run_of(
     alloc: Global,
     registry: Registry,
@@ -176,7 +176,7 @@ fn run_of(
     }
 }
 
-/// The one run that the journals and the transcripts tell; the events are taken out of the journals.
+/// Makes the one run that the journals and the transcripts record. It takes the events out of the journals.
 fn audit_among(
     alloc: Global,
     journals: &mut [Record],
@@ -198,12 +198,12 @@ fn audit_among(
     }
 }
 
-/// The one run that the journals and the transcripts tell. A journal with evidence of who ran its node is not replayed, since it is a
-/// replay; any other is. Refused as BadParam where there is not one journal for each node of one group; as Collision where two
-/// transcripts are of one process, a process that made an event has none, one differs from its process's events in its home's journal,
-/// or a put is said to be done that its client's cache refuses, or by a process that was in a call or had ended; as Stale where the
-/// reply of an event is another on replay; as Unordered where no order delivers each frame after it was sent; each only where none of
-/// those before it is there; and as NoMemory.
+/// Makes the one run that the journals and the transcripts record. A journal with evidence of the server that ran its node is not
+/// replayed, since it is a replay; any other is replayed. Each refusal except `NoMemory` comes only if no earlier one in this list
+/// applies. Errors: `BadParam` if there is not one journal for each node of one group. `Collision` if two transcripts are of one process,
+/// or if a process that made an event has no transcript. `Collision` if a transcript differs from its process's events in its home's
+/// journal. `Collision` if a transcript claims a done put that its client's cache refuses, or that its process made in a call or after its
+/// end. `Stale` if the reply of an event differs on replay. `Unordered` if no order delivers each frame after it was sent. `NoMemory`.
 pub fn audit(
     alloc: Global,
     mut journals: Vec<Record>,

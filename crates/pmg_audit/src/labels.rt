@@ -1,4 +1,4 @@
-//! What frames that were sent are looked for by.
+//! The labels under which sent frames are found.
 ghost use Rattle.std.specs.Prelude.{◌≡◌};
 ghost use Rattle.pmg_frame.specs.Fences.{participants_of};
 ghost use Rattle.pmg_audit.specs.Labels.{about_commits, about_fence, first_rank, label_of};
@@ -6,13 +6,13 @@ ghost use Rattle.pmg_audit.specs.Labels.{about_commits, about_fence, first_rank,
 use pmg_frame::{FenceName, Frame};
 use pmg_value::{NodeId, Proc};
 
-/// Numbers out of a frame that mostly tell frames apart. Those that differ most often come first, since labels are compared field by
+/// The numbers of a frame that mostly distinguish frames. Numbers that differ most often come first, since labels are compared field by
 /// field.
 #[derive(Clone, Copy, PartialEq, Eq, PartialOrd, Ord)]
 pub(crate) struct Label {
     /// The number of a commit, of a request or of a fence's instance.
     pub(crate) number: u64,
-    /// The rank of the process whose commits it is about, or the node that tells or asks of a fence.
+    /// The rank of the process whose commits the frame is about, or the node that answers or asks about a fence.
     pub(crate) of: u64,
     /// The rank of a fence's first participant, the node that asks, or the number of another commit.
     pub(crate) other: u64,
@@ -22,7 +22,7 @@ pub(crate) struct Label {
     pub(crate) kind: u64,
 }
 
-/// The rank of the fence's first participant.
+/// Returns the rank of the fence's first participant.
 fn first_rank(name: &FenceName) -> u64
     ensures { result ≡ first_rank (participants_of name.now) }
 {
@@ -32,7 +32,7 @@ fn first_rank(name: &FenceName) -> u64
     }
 }
 
-/// The label of a frame of that kind about the process's commits.
+/// Returns the label of a frame of that kind about the process's commits.
 fn about_commits(to: u64, kind: u64, number: u64, proc: &Proc, other: u64) -> Label
     ensures { result ≡ about_commits to kind number proc.now other }
 {
@@ -45,7 +45,7 @@ fn about_commits(to: u64, kind: u64, number: u64, proc: &Proc, other: u64) -> La
     }
 }
 
-/// The label of a frame of that kind in which the node tells or asks of the fence.
+/// Returns the label of a frame of that kind in which the node answers or asks about the fence.
 fn about_fence(to: u64, kind: u64, node: NodeId, name: &FenceName) -> Label
     ensures { result ≡ about_fence to kind node name.now }
 {
@@ -58,7 +58,7 @@ fn about_fence(to: u64, kind: u64, node: NodeId, name: &FenceName) -> Label
     }
 }
 
-/// The label of a frame that goes to that node.
+/// Returns the label of a frame that goes to that node.
 pub(crate) fn label_of(to: u64, frame: &Frame) -> Label
     ensures { result ≡ label_of to frame.now }
 {

@@ -1,4 +1,4 @@
-//! Whether the journals of a group's nodes and the transcripts of its clients are one run of the model.
+//! The check that the journals of a group's nodes and the transcripts of its clients are one run of the model.
 #![tactic(auto)]
 
 mod auditing;

@@ -1,4 +1,4 @@
-//! What happened at a node, event after event, and what its clients say of it.
+//! The events at a node, one after another, and the claims of its clients about them.
 ghost use Rattle.std.specs.Prelude.{◌≡◌};
 ghost use Rattle.pmg_world.specs.Telling.{event_of};
 ghost use Rattle.pmg_audit.specs.Codes.{audited_put};
@@ -14,7 +14,7 @@ use std::collections::VecDeque;
 
 /// A put that is done.
 pub(crate) struct Put {
-    /// Who may see it.
+    /// The processes that may see it, as a scope.
     pub(crate) scope: Scope,
     /// Its key.
     pub(crate) key: Key,
@@ -29,7 +29,7 @@ impl Drop for Put {
 }
 
 impl Put {
-    /// The put as an event, of that process.
+    /// Returns the put as an event, of that process.
     pub(crate) fn into_event(self, proc: Proc) -> WorldEvent
         ensures { event_of result ≡ (put_told proc (audited_put self)).event }
     {
@@ -38,9 +38,9 @@ impl Put {
     }
 }
 
-/// An event that a client says it made.
+/// An event that a client claims.
 pub(crate) struct Due {
-    /// What it put since its event before.
+    /// The puts since the client's previous event.
     pub(crate) puts: Vec<Put>,
     /// The act.
     pub(crate) act: Act,
@@ -55,7 +55,7 @@ impl Drop for Due {
 }
 
 impl Due {
-    /// The puts before it.
+    /// Returns the puts before it.
     pub(crate) fn into_puts(self) -> Vec<Put>
         ensures { result ≡ self.puts }
     {
@@ -68,13 +68,13 @@ impl Due {
     }
 }
 
-/// The events that a client says it made, of which no journal told yet, and what it put after them.
+/// The events that a client claims, without those that a journal has matched, and its puts after them.
 pub(crate) struct Saying {
     /// The client's process.
     pub(crate) proc: Proc,
     /// The events, in their order.
     pub(crate) dues: VecDeque<Due>,
-    /// What it put after its last event.
+    /// The puts after its last event.
     pub(crate) last_puts: Vec<Put>,
 }
 
@@ -90,7 +90,7 @@ impl Drop for Saying {
 
 /// An event of a journal, replayed.
 pub(crate) struct Move {
-    /// What its client put since its event before.
+    /// The puts of its client since the previous event.
     pub(crate) puts: Vec<Put>,
     /// The event, with its answer.
     pub(crate) event: Event,
@@ -109,7 +109,7 @@ impl Drop for Move {
 }
 
 impl Move {
-    /// The puts, the event and the frames.
+    /// Returns the puts, the event and the frames.
     pub(crate) fn into_parts(self) -> (Vec<Put>, Event, VecDeque<Sent>)
         ensures puts { result.0 ≡ self.puts }
         ensures event { result.1 ≡ self.event }
@@ -124,7 +124,7 @@ impl Move {
     }
 }
 
-/// The events of one journal, replayed, or what is left of them.
+/// The events of one replayed journal, or the rest of them.
 pub(crate) struct Lane {
     /// The events, in their order.
     pub(crate) moves: VecDeque<Move>,

@@ -1,4 +1,4 @@
-//! An order of what happened at several nodes, in which each frame is delivered after it was sent.
+//! An order of the events at several nodes, in which each frame is delivered after it was sent.
 ghost use Rattle.std.specs.Prelude.{◌≡◌, ◌⊎◌, ◌<◌, ◌++◌, ℕ, true, false, [], ◌∷◌, map, slice_get, Some, IfOk, IfErr, IfSome, IsNone, OnOk};
 ghost use Rattle.std.specs.Option.{option_map};
 ghost use Rattle.pmg_value.specs.Lists.{In};
@@ -23,9 +23,9 @@ use pmg_world::{Event, LoggedEvent};
 use std::alloc::{AllocError, Global};
 use std::collections::VecDeque;
 
-/// What is told in an order, and the frames that are sent in it.
+/// The events in an order, and the frames that are sent in it.
 pub(crate) struct Order {
-    /// The frames, each with the node that it is sent to.
+    /// The frames, each with its receiver.
     pub(crate) sent: Vec<Sent>,
     /// The events, each with its answer.
     pub(crate) told: Vec<LoggedEvent>,
@@ -38,7 +38,7 @@ impl Drop for Order {
 }
 
 impl Order {
-    /// The frames and the events.
+    /// Returns the frames and the events.
     pub(crate) fn into_parts(self) -> (Vec<Sent>, Vec<LoggedEvent>)
         ensures sent { result.0 ≡ self.sent }
         ensures told { result.1 ≡ self.told }
@@ -48,15 +48,15 @@ impl Order {
     }
 }
 
-/// An order that is made, event after event.
+/// An order under construction, event after event.
 struct Making {
-    /// What is left to be told of each node.
+    /// The remaining events of each node.
     lanes: Vec<Lane>,
-    /// What is told.
+    /// The ordered events.
     told: Vec<LoggedEvent>,
-    /// What was sent.
+    /// The sent frames.
     sends: Sends,
-    /// The nodes to be looked at: no other has an event that may come next.
+    /// The nodes to be examined: no other node has an event that may come next.
     awake: VecDeque<usize>,
 }
 
@@ -71,7 +71,7 @@ impl Drop for Making {
     }
 }
 
-/// The act of the node as an event, if it may come next.
+/// Returns the act of the node as an event, if it may come next.
 fn event_for(sends: &Sends, node: u64, act: &Act) -> Result<Option<Event>, AllocError>
     requires { AreNumbered sends.now }
     ensures some { IfOk result (λ o. IfSome o (λ e.
@@ -89,7 +89,7 @@ fn event_for(sends: &Sends, node: u64, act: &Act) -> Result<Option<Event>, Alloc
     }
 }
 
-/// The next act of the node as an event, if it may come next.
+/// Returns the next act of the node as an event, if it may come next.
 fn next_at(lanes: &[Lane], sends: &Sends, node: usize) -> Result<Option<Event>, AllocError>
     requires { AreNumbered sends.now }
     ensures some { IfOk result (λ o. IfSome o (λ e.
@@ -106,7 +106,7 @@ fn next_at(lanes: &[Lane], sends: &Sends, node: usize) -> Result<Option<Event>, 
     }
 }
 
-/// The puts of the process that calls are told, each done; none, where no process calls.
+/// Appends the puts of the calling process, each one done. It appends nothing if no process calls.
 fn tell_puts(
     told: &mut Vec<LoggedEvent>,
     caller: Option<&Proc>,
@@ -127,7 +127,7 @@ fn tell_puts(
     Ok(())
 }
 
-/// All nodes, so many.
+/// Returns the indices of all nodes, as many as the count.
 fn all_awake(alloc: Global, count: usize) -> Result<VecDeque<usize>, AllocError>
     ensures { IfOk result (λ awake. (n : ℕ) → n < count → In n awake.items) }
 {
@@ -138,7 +138,7 @@ fn all_awake(alloc: Global, count: usize) -> Result<VecDeque<usize>, AllocError>
     Ok(awake)
 }
 
-/// How many events are told of the moves: each one's, and the puts before it.
+/// Returns the number of events that the moves give: one for each move, and one for each put before it.
 fn count_told(moves: &VecDeque<Move>) -> usize {
     let mut count = 0usize;
     for next in moves.iter() {
@@ -147,7 +147,7 @@ fn count_told(moves: &VecDeque<Move>) -> usize {
     count
 }
 
-/// How many events are told of all nodes.
+/// Returns the number of events that all nodes give.
 fn count_all_told(lanes: &[Lane]) -> usize {
     let mut count = 0usize;
     for lane in lanes {
@@ -157,7 +157,7 @@ fn count_all_told(lanes: &[Lane]) -> usize {
 }
 
 impl Making {
-    /// Nothing is told yet.
+    /// Starts the order, without events.
     fn new(alloc: Global, lanes: Vec<Lane>) -> Result<Making, AllocError>
         ensures { IfOk result (IsMaking (all_of lanes.items)) }
     {
@@ -171,7 +171,7 @@ impl Making {
         })
     }
 
-    /// The frames are sent after the others, and who they are sent to is looked at.
+    /// Appends the frames to the sent ones, and wakes the nodes that they go to.
     fn send_all(&mut self, frames: VecDeque<Sent>) -> Result<(), AllocError>
         requires { AreNumbered self.old.sends }
         ensures lanes { self.new.lanes ≡ self.old.lanes }
@@ -189,7 +189,7 @@ impl Making {
         Ok(())
     }
 
-    /// The move is told as the event, after the puts before it, and its frames are sent.
+    /// Appends the move as the event, after the puts before it, and sends its frames.
     fn tell(&mut self, next: Move, event: Event) -> Result<(), AllocError>
         requires { AreNumbered self.old.sends }
         ensures lanes { self.new.lanes ≡ self.old.lanes }
@@ -210,7 +210,7 @@ impl Making {
         self.send_all(frames)
     }
 
-    /// Takes the next move of the node out of what is left.
+    /// Takes the next move of the node out of the remaining ones.
     fn take_next(&mut self, node: usize) -> Option<Move>
         ensures some { IfSome result (λ x. IsTaken (all_of self.old.lanes.items) node (move_in x) (all_of self.new.lanes.items)) }
         ensures none { IsNone result → moves_at (all_of self.old.lanes.items) node ≡ [] }
@@ -224,7 +224,7 @@ impl Making {
         self.lanes[node].moves.pop_front()
     }
 
-    /// The node's next event is told.
+    /// Appends the node's next event.
     fn go_on(&mut self, node: usize, event: Event) -> Result<(), AllocError>
         requires numbered { AreNumbered self.old.sends }
         requires awake { In node self.old.awake.items }
@@ -238,7 +238,7 @@ impl Making {
         Ok(())
     }
 
-    /// The first node that is to be looked at goes on, or is not looked at again until something is sent to it.
+    /// Continues with the first awake node. If its next event may not come, the node sleeps until a frame is sent to it.
     fn look(&mut self, node: usize) -> Result<(), AllocError>
         requires numbered { AreNumbered self.old.sends }
         requires first { slice_get self.old.awake.items 0 ≡ Some node }
@@ -253,7 +253,7 @@ impl Making {
         Ok(())
     }
 
-    /// What is told, and what was sent.
+    /// Returns the ordered events, and the sent frames.
     fn into_order(self) -> Order
         ensures sent { result.sent ≡ self.sends.frames }
         ensures told { result.told ≡ self.told }
@@ -271,7 +271,7 @@ impl Making {
     }
 }
 
-/// Whether something is left of a node.
+/// Returns whether a node has remaining events.
 fn is_open(lanes: &[Lane]) -> bool
     ensures open { result ≡ true → SomeOpen (all_of lanes.now) }
     ensures closed { result ≡ false → (n : ℕ) → moves_at (all_of lanes.now) n ≡ [] }
@@ -284,7 +284,7 @@ fn is_open(lanes: &[Lane]) -> bool
     false
 }
 
-/// All events are told that may be.
+/// Appends all events that may come.
 fn make_all(alloc: Global, lanes: Vec<Lane>) -> Result<Making, AllocError>
     ensures making { IfOk result (IsMaking (all_of lanes.items)) }
     ensures ended { IfOk result (λ m. m.awake.items ≡ []) }
@@ -296,7 +296,7 @@ fn make_all(alloc: Global, lanes: Vec<Lane>) -> Result<Making, AllocError>
     Ok(making)
 }
 
-/// An order of all events. Refused as Unordered where no order delivers each frame after it was sent.
+/// Makes an order of all events. Errors: `Unordered` if no order delivers each frame after it was sent; `NoMemory`.
 pub(crate) fn make_order(alloc: Global, lanes: Vec<Lane>) -> Result<Order, Refusal>
     ensures ok { IfOk result (λ o. AreTold (all_of lanes.items) (map happened_of o.told.items) o.sent.items) }
     ensures unordered { IfErr result (λ e. e ≡ refusals.Unordered → NoOrder (all_of lanes.items)) }

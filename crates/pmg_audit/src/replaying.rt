@@ -26,7 +26,7 @@ use pmg_value::{NodeId, Proc, Refusal};
 use std::alloc::{AllocError, Global};
 use std::collections::VecDeque;
 
-/// A journal that is replayed: its node, what happened at it so far, and whether some answer was another.
+/// A replayed journal: its node, its events until now, and whether an answer differed.
 pub(crate) struct Replay {
     pub(crate) node: Server,
     pub(crate) lane: Lane,
@@ -43,28 +43,30 @@ impl Drop for Replay {
     }
 }
 
-/// Whether the event that is said is this one.
+/// Returns whether the claimed event is this one.
 fn is_said(due: &Due, event: &Event) -> bool
     ensures { IsTrue result ↔ (due_event (audited_due due.now) ≡ happening_of event.now) }
 {
     is_same_act(&due.act, &event.act) && is_same_answer(&due.answer, &event.answer)
 }
 
-/// Whether a process may have put that: it put nothing, or it is free, which is to be in no call, and not ended.
+/// Returns whether a process may have made the puts: there are no puts, or the process is free, which means that it is in no call and has
+/// not ended.
 fn may_put_if(is_free: bool, puts: &[Put]) -> bool
     ensures { IsTrue result ↔ ((map audited_put puts.now ≡ []) ⊎ (is_free ≡ true)) }
 {
     puts.is_empty() || is_free
 }
 
-/// Whether the process may have put that at the node.
+/// Returns whether the process may have made the puts at the node.
 fn may_put(node: &Server, proc: &Proc, puts: &[Put]) -> bool
     ensures { IsTrue result ↔ MayPut node.now proc.now (map audited_put puts.now) }
 {
     puts.is_empty() || node.check_free(proc).is_ok()
 }
 
-/// The puts of the process before the event, if it says that it made the event, and is at home at the node. It is free there, or not.
+/// Returns the puts of the process before the event, if the process claims the event, and is at home at the node. The flag says whether
+/// the process is free there.
 fn puts_of(
     sayings: &mut Sayings,
     registry: &Registry,
@@ -92,7 +94,7 @@ fn puts_of(
     Some(due.into_puts())
 }
 
-/// The puts before the event: those of its caller, who is free at the node, or not.
+/// Returns the puts before the event: the puts of its caller. The flag says whether the caller is free at the node.
 fn puts_before(
     alloc: Global,
     sayings: &mut Sayings,
@@ -110,7 +112,7 @@ fn puts_before(
     }
 }
 
-/// The node's answer to the act, and the frames that it sends.
+/// Returns the node's answer to the act, and appends the frames that the node sends.
 fn answer_of(
     node: &mut Server,
     act: &Act,
@@ -127,7 +129,7 @@ fn answer_of(
     }
 }
 
-/// The event after these puts, before it is replayed.
+/// Returns the event after these puts, before it is replayed.
 fn move_of(alloc: Global, puts: Vec<Put>, event: Event) -> Move
     ensures { move_in result ≡ unsent_move (map audited_put puts.items) (happening_of event) }
 {
@@ -138,7 +140,7 @@ fn move_of(alloc: Global, puts: Vec<Put>, event: Event) -> Move
     }
 }
 
-/// The event happens at the node; whether its answer is the one that is there. The frames are those that the node sends.
+/// Replays the event at the node, and returns whether its answer is the recorded one. It adds the frames that the node sends.
 fn happens_so(node: &mut Server, next: &mut Move) -> Result<bool, AllocError>
     ensures node { OnOk result (node.new ≡ after node.old (act_of next.old.event.act)) }
     ensures next { OnOk result (move_in next.new ≡ sent_more (move_in next.old) (sent_by node.old (act_of next.old.event.act))) }
@@ -149,7 +151,7 @@ fn happens_so(node: &mut Server, next: &mut Move) -> Result<bool, AllocError>
 }
 
 impl Replay {
-    /// The event happens again at the node, after these puts.
+    /// Replays the event at the node, after these puts.
     fn happen(&mut self, alloc: Global, puts: Vec<Put>, event: Event) -> Result<(), AllocError>
         ensures { OnOk result (IsAdded self.old (map audited_put puts.items) (happening_of event) self.new) }
     {
@@ -161,7 +163,7 @@ impl Replay {
         Ok(())
     }
 
-    /// The event happens again. Refused as Collision where a client says otherwise.
+    /// Replays the event. Errors: `Collision` if a client's claim differs; `NoMemory`.
     fn happen_next(
         &mut self,
         alloc: Global,
@@ -182,7 +184,7 @@ impl Replay {
         }
     }
 
-    /// The events happen again. Refused as Collision where a client says otherwise.
+    /// Replays the events. Errors: `Collision` if a client's claim differs; `NoMemory`.
     fn happen_all(
         &mut self,
         alloc: Global,
@@ -202,7 +204,7 @@ impl Replay {
         Ok(())
     }
 
-    /// The node and what happened at it.
+    /// Returns the node and its events.
     fn into_parts(self) -> (Server, Lane)
         ensures node { result.0 ≡ self.node }
         ensures lane { result.1 ≡ self.lane }
@@ -216,7 +218,7 @@ impl Replay {
     }
 }
 
-/// The events happen again, on a new node. Refused as Collision where a client says otherwise.
+/// Replays the events on a new node. Errors: `Collision` if a client's claim differs; `NoMemory`.
 fn replay_journal(
     alloc: Global,
     registry: &Registry,
@@ -243,7 +245,7 @@ fn replay_journal(
     Ok(replay)
 }
 
-/// The event happened, as its step tells. Refused as Collision where a client says otherwise.
+/// Follows the event, as its step records it. Errors: `Collision` if a client's claim differs; `NoMemory`.
 fn follow_next(
     lane: &mut Lane,
     alloc: Global,
@@ -270,7 +272,7 @@ fn follow_next(
     }
 }
 
-/// The events happened, as their steps tell. Refused as Collision where a client says otherwise.
+/// Follows the events, as their steps record them. Errors: `Collision` if a client's claim differs; `NoMemory`.
 fn follow_all(
     lane: &mut Lane,
     alloc: Global,
@@ -298,7 +300,8 @@ fn follow_all(
     Ok(())
 }
 
-/// The events happened, as the evidence tells, and left the node as it is there. Refused as Collision where a client says otherwise.
+/// Follows the events, as the evidence records them. The node is the one in the evidence. Errors: `Collision` if a client's claim differs;
+/// `NoMemory`.
 fn follow_journal(
     alloc: Global,
     registry: &Registry,
@@ -327,8 +330,8 @@ fn follow_journal(
     })
 }
 
-/// The events happened: as their evidence tells, or, where there is none, again, on a new node. Refused as Collision where a client
-/// says otherwise.
+/// Follows the events as their evidence records them, or, without evidence, replays them on a new node. Errors: `Collision` if a client's
+/// claim differs; `NoMemory`.
 fn retell_journal(
     alloc: Global,
     registry: &Registry,
@@ -348,7 +351,7 @@ fn retell_journal(
     }
 }
 
-/// Which of the journals is the node's: the first of them.
+/// Returns the place of the node's journal: the first such journal.
 fn place_of(journals: &[Record], node: NodeId) -> Option<usize>
     ensures some { IfSome result (λ k. IsJournalOf journals.now node k) }
     ensures none { IsNone result → journal_at journals.now node ≡ [] }
@@ -361,7 +364,7 @@ fn place_of(journals: &[Record], node: NodeId) -> Option<usize>
     None
 }
 
-/// The events of the node's journal, which is left without any, and the evidence of it, if there is some.
+/// Takes the events out of the node's journal, and its evidence, if there is any.
 fn take_events(
     alloc: Global,
     journals: &mut [Record],
@@ -378,7 +381,7 @@ fn take_events(
     }
 }
 
-/// All journals, replayed: the nodes after them, what happened at each, and whether some answer was another.
+/// All replayed journals: the nodes after them, the events at each, and whether an answer differed.
 pub(crate) struct AllReplayed {
     pub(crate) nodes: Vec<Server>,
     pub(crate) lanes: Vec<Lane>,
@@ -396,7 +399,7 @@ impl Drop for AllReplayed {
 }
 
 impl AllReplayed {
-    /// The next node's journal is replayed.
+    /// Adds the replay of the next node's journal.
     fn add(&mut self, replay: Replay) -> Result<(), AllocError>
         ensures nodes { OnOk result (self.new.nodes.items ≡ self.old.nodes.items ++ replay.node ∷ []) }
         ensures lanes { OnOk result (self.new.lanes.items ≡ self.old.lanes.items ++ replay.lane ∷ []) }
@@ -412,7 +415,7 @@ impl AllReplayed {
         Ok(())
     }
 
-    /// Whether each process, at its home after all that happened there, may have put what it put after its last event.
+    /// Returns whether each process, at its home after all events there, may have made its puts after its last event.
     pub(crate) fn may_put_last(&self, registry: &Registry, sayings: &[Saying]) -> bool
         requires jobs { AreJobs registry.now }
         requires nodes { length self.now.nodes.items ≡ length registry.now.nodes }
@@ -428,7 +431,7 @@ impl AllReplayed {
         true
     }
 
-    /// The nodes, and what happened at each.
+    /// Returns the nodes, and the events at each.
     pub(crate) fn into_parts(self) -> (Vec<Server>, Vec<Lane>)
         ensures nodes { result.0 ≡ self.nodes }
         ensures lanes { result.1 ≡ self.lanes }
@@ -441,7 +444,7 @@ impl AllReplayed {
         (nodes, lanes)
     }
 
-    /// The next node's journal, as it is replayed, or as its evidence tells. Its events are taken out of it.
+    /// Replays the next node's journal, or follows its evidence. It takes the events out of the journal.
     fn replay_next(
         &mut self,
         alloc: Global,
@@ -469,8 +472,8 @@ impl AllReplayed {
     }
 }
 
-/// The journal of each node is replayed, where there is no evidence of it, and its events are taken out of it. Refused as Collision
-/// where a client says otherwise.
+/// Replays the journal of each node without evidence, follows the evidence of the others, and takes the events out of the journals.
+/// Errors: `Collision` if a client's claim differs; `NoMemory`.
 pub(crate) fn replay_all(
     alloc: Global,
     registry: &Registry,

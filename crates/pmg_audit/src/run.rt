@@ -1,4 +1,4 @@
-//! One run of a group, told by its journals.
+//! One run of a group, made from its journals.
 ghost use Rattle.std.specs.Prelude.{◌≡◌, slice_get};
 ghost use Rattle.std.specs.Option.{option_map};
 ghost use Rattle.pmg_store.specs.Outcomes.{Dumps};
@@ -14,8 +14,8 @@ use pmg_world::LoggedEvent;
 use std::io::Write;
 use std::marker::Model;
 
-/// One run of a group of nodes with their clients: all events in one order, each with its answer, all frames that were sent, and the
-/// nodes after them. It is a run of the model, and the laws of every run hold of it.
+/// One run of a group of nodes with their clients: all events in one order, each with its answer, all sent frames, and the nodes after
+/// them. It is a run of the model, and the laws of every run hold for it.
 pub struct Run {
     pub(crate) registry: Registry,
     pub(crate) nodes: Vec<Server>,
@@ -51,14 +51,15 @@ impl Model for Run {
 }
 
 impl Run {
-    /// The registry of the group.
+    /// Returns the registry of the group.
     pub fn registry(&self) -> &Registry
         ensures { result.now ≡ self.now.jobs }
     {
         &self.registry
     }
 
-    /// All that happened, each event with its answer, in one order. It is a run of the model, and the laws of every run hold of it.
+    /// Returns all events of the run, each with its answer, in one order. They are a run of the model, and the laws of every run hold for
+    /// it.
     pub fn events(&self) -> &[LoggedEvent]
         ensures told { result.now ≡ self.now.told }
         ensures run { IsRun self.now }
@@ -67,22 +68,22 @@ impl Run {
         &self.told
     }
 
-    /// All frames that were sent, each with the node that it was sent to, in their order.
+    /// Returns all sent frames, each with its receiver, in their order.
     pub fn sent(&self) -> &[Sent]
         ensures { result.now ≡ self.now.sent }
     {
         &self.sent
     }
 
-    /// The node of that index after all that happened, if the group has one.
+    /// Returns the node of that index after all events, if the group has one.
     pub fn node(&self, node: NodeId) -> Option<&Server>
         ensures { option_map (λ n. n.now) result ≡ slice_get self.now.nodes node }
     {
         self.nodes.get(node.index() as usize)
     }
 
-    /// Writes the dump of what the node of that index tells other nodes, after all that happened. Refused as BadParam where the group
-    /// has no such node, and as NoMemory, with nothing written; where the writer fails, a prefix of the dump was written.
+    /// Writes the dump of the node's knowledge for other nodes, after all events. If the writer fails, a prefix of the dump was written.
+    /// Errors, with nothing written: `BadParam` if the group has no node of that index; `NoMemory`.
     pub fn dump<W: Write>(&self, node: NodeId, writer: &mut WatchedWriter<W>) -> Result<(), Failure>
         ensures { Dumps (W.contents writer.old.writer) (W.contents writer.new.writer) result
             (dump_due (slice_get self.now.nodes node)) }

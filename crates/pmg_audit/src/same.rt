@@ -1,4 +1,4 @@
-//! Whether two acts are one, and two answers.
+//! The equality of two acts, and of two answers.
 ghost use Rattle.std.specs.Prelude.{◌≡◌, ◌↔◌, IsTrue};
 ghost use Rattle.pmg_node.specs.Acting.{act_of, reply_as, request_of};
 ghost use Rattle.pmg_node.specs.Servers.{reply_in};
@@ -7,14 +7,14 @@ ghost use Rattle.pmg_audit.specs.Sameness.{are_same_procs, is_same_flag, is_same
 use pmg_node::{Act, Reply, Request};
 use pmg_value::{Proc, Refusal};
 
-/// Whether the flags are one.
+/// Returns whether the flags are equal.
 fn is_same_flag(flag: bool, other: bool) -> bool
     ensures { result ≡ is_same_flag flag other }
 {
     if flag { other } else { !other }
 }
 
-/// Whether the lists are one.
+/// Returns whether the lists are equal.
 fn are_same_procs(procs: &[Proc], others: &[Proc]) -> bool
     ensures { result ≡ are_same_procs procs.now others.now }
 {
@@ -29,7 +29,7 @@ fn are_same_procs(procs: &[Proc], others: &[Proc]) -> bool
     true
 }
 
-/// Whether the requests are one.
+/// Returns whether the requests are equal.
 #[tactic(auto, unfolding(crate::specs::Sameness::is_same_request))]
 fn is_same_request(request: &Request, other: &Request) -> bool
     ensures { result ≡ is_same_request (request_of request.now) (request_of other.now) }
@@ -74,7 +74,7 @@ fn is_same_request(request: &Request, other: &Request) -> bool
     }
 }
 
-/// Whether the acts are one.
+/// Returns whether the acts are equal.
 pub(crate) fn is_same_act(act: &Act, other: &Act) -> bool
     ensures { IsTrue result ↔ (act_of act.now ≡ act_of other.now) }
 {
@@ -94,7 +94,7 @@ pub(crate) fn is_same_act(act: &Act, other: &Act) -> bool
     }
 }
 
-/// Whether the refusals are one.
+/// Returns whether the refusals are equal.
 #[tactic(auto, unfolding(crate::specs::Sameness::is_same_refusal))]
 fn is_same_refusal(refusal: &Refusal, other: &Refusal) -> bool
     ensures { result ≡ is_same_refusal refusal.now other.now }
@@ -110,7 +110,7 @@ fn is_same_refusal(refusal: &Refusal, other: &Refusal) -> bool
     }
 }
 
-/// Whether the replies are one.
+/// Returns whether the replies are equal.
 #[tactic(auto, unfolding(crate::specs::Sameness::is_same_reply))]
 fn is_same_reply(reply: &Reply, other: &Reply) -> bool
     ensures { result ≡ is_same_reply (reply_as reply.now) (reply_as other.now) }
@@ -134,7 +134,7 @@ fn is_same_reply(reply: &Reply, other: &Reply) -> bool
     }
 }
 
-/// Whether the answers are one.
+/// Returns whether the answers are equal.
 pub(crate) fn is_same_answer(
     answer: &Result<Reply, Refusal>,
     other: &Result<Reply, Refusal>,

@@ -1,4 +1,4 @@
-//! What transcripts say of their clients' events.
+//! The claims of transcripts about their clients' events.
 ghost use Rattle.std.specs.Prelude.{◌≡◌, ◌≢◌, ◌<◌, ◌++◌, ◌∷◌, [], true, false, length, map, IfOk, IfErr, IfSome, IsNone, OnOk};
 ghost use Rattle.pmg_value.specs.Lists.{In, Each};
 ghost use Rattle.pmg_value.specs.Spelling.{spelling};
@@ -28,7 +28,7 @@ use std::collections::{BTreeMap, VecDeque};
 use std::marker::Model;
 use std::mem;
 
-/// A transcript that is read: what its client's cache holds, what it put since its last event, and its events.
+/// A transcript that is read: the contents of its client's cache, the puts since its last event, and its events.
 struct Reading {
     alloc: Global,
     cache: Cache,
@@ -47,7 +47,7 @@ impl Drop for Reading {
     }
 }
 
-/// Whether the call is no event: an allocation failed, or its desk was closed.
+/// Returns whether the call is no event: an allocation failed, or its desk was closed.
 fn is_passed(answer: &Result<Reply, Refusal>) -> bool
     ensures { result ≡ is_passed (reply_in reply_as answer.now) }
 {
@@ -58,7 +58,7 @@ fn is_passed(answer: &Result<Reply, Refusal>) -> bool
     }
 }
 
-/// Whether the request is a get of a key of one's own, which no node is asked for.
+/// Returns whether the request is a get of the process's own key, for which no node is asked.
 fn is_own_ask(request: &Request) -> bool
     ensures { result ≡ is_own_ask (ModelAct.request (request_of request.now)) }
 {
@@ -69,7 +69,7 @@ fn is_own_ask(request: &Request) -> bool
 }
 
 impl Reading {
-    /// A put that is done, if the cache takes it.
+    /// Adds a put that is done, and returns whether the cache takes it.
     fn put(&mut self, scope: Scope, key: &Key, value: &Value) -> Result<bool, AllocError>
         ensures takes { IfOk result (λ t. t ≡ takes_put self.old.cache (Calling.put scope key.now (spelling value.now)) ModelReply.done) }
         ensures reads { IfOk result (λ t. t ≡ true
@@ -87,7 +87,7 @@ impl Reading {
         }
     }
 
-    /// The act is an event, with the puts since the one before.
+    /// Adds the act as an event, with the puts since the previous one.
     fn tell(&mut self, act: Act, answer: &Result<Reply, Refusal>) -> Result<(), AllocError>
         ensures cache { self.new.cache ≡ self.old.cache }
         ensures puts { OnOk result (self.new.puts.items ≡ []) }
@@ -101,7 +101,7 @@ impl Reading {
         Ok(())
     }
 
-    /// A commit is an event, and seals what the cache has.
+    /// Adds a commit as an event, which seals the unsealed puts of the cache.
     fn commit(&mut self, proc: &Proc, answer: &Result<Reply, Refusal>) -> Result<(), AllocError>
         ensures { OnOk result (ReadsCall proc.now self.old (noted Calling.commit (reply_in reply_as answer.now)) self.new) }
     {
@@ -116,7 +116,7 @@ impl Reading {
         Ok(())
     }
 
-    /// A request is an event, unless it is a get of a key of one's own.
+    /// Adds a request as an event, unless it is a get of the process's own key.
     fn request(
         &mut self,
         request: &Request,
@@ -131,7 +131,7 @@ impl Reading {
         self.tell(Act::Request(request.copy()?), answer)
     }
 
-    /// The next call of the process; whether its client's cache takes what it is said to have put.
+    /// Reads the next call of the process, and returns whether its client's cache takes the claimed put.
     fn read(&mut self, proc: &Proc, called: &Called) -> Result<bool, AllocError>
         ensures takes { IfOk result (λ t. t ≡ takes_put self.old.cache (calling_of called.now.call) (reply_in reply_as called.now.answer)) }
         ensures reads { IfOk result (λ t. t ≡ true → ReadsCall proc.now self.old (noted_of called.now) self.new) }
@@ -157,7 +157,7 @@ impl Reading {
 }
 
 impl Reading {
-    /// All calls of the process; whether its client's cache takes what it is said to have put.
+    /// Reads all calls of the process, and returns whether its client's cache takes the claimed puts.
     fn read_all(&mut self, proc: &Proc, calls: &[Called]) -> Result<bool, AllocError>
         ensures taken { IfOk result (λ t. t ≡ takes_all self.old.cache (map noted_of calls.now)) }
         ensures said { IfOk result (λ t. t ≡ true → map audited_due self.new.dues.items
@@ -173,7 +173,7 @@ impl Reading {
         Ok(true)
     }
 
-    /// What the process says: the events, and what it put after the last one.
+    /// Returns the claims of the process: the events, and the puts after the last one.
     fn into_saying(self, proc: Proc) -> Saying
         ensures proc { result.proc ≡ proc }
         ensures dues { result.dues ≡ self.dues }
@@ -193,7 +193,7 @@ impl Reading {
     }
 }
 
-/// What the transcript says; none where the client's cache would not take what it is said to have put.
+/// Returns the claims of the transcript, or `None` if the client's cache would refuse a claimed put.
 fn saying_of(alloc: Global, transcript: &Transcript) -> Result<Option<Saying>, AllocError>
     ensures said { IfOk result (λ o. IfSome o (λ saying. IsSayingOf saying transcript.now)) }
     ensures taken { IfOk result (λ o. IfSome o (λ saying. takes_all no_puts (noted_in transcript.now) ≡ true)) }
@@ -212,7 +212,7 @@ fn saying_of(alloc: Global, transcript: &Transcript) -> Result<Option<Saying>, A
     Ok(Some(reading.into_saying(proc)))
 }
 
-/// What clients say, each found by its process.
+/// The claims of clients, each found by its process.
 #[derive(Drop)]
 pub(crate) struct Sayings {
     items: Vec<Saying>,
@@ -235,7 +235,7 @@ impl Model for Sayings {
     ghost invariant = { λ a. ArePlaces (sayers a.items.items) a.places.entries };
 }
 
-/// The saying after the others, and its place.
+/// Appends the saying, and adds its place.
 fn add(
     items: &mut Vec<Saying>,
     places: &mut BTreeMap<Proc, usize>,
@@ -251,7 +251,8 @@ fn add(
     Ok(())
 }
 
-/// What each transcript says. Refused as Collision where two are of one process, or one is of no client.
+/// Returns the claims of each transcript. Errors: `Collision` if two are of one process, or if a client's cache would refuse a claimed
+/// put; `NoMemory`.
 pub(crate) fn sayings_of(alloc: Global, transcripts: &[Transcript]) -> Result<Sayings, Refusal>
     ensures said { IfOk result (λ sayings. AreSayings sayings transcripts.now) }
     ensures apart { IfOk result (λ sayings. AreOfOtherProcs transcripts.now) }
@@ -274,7 +275,7 @@ pub(crate) fn sayings_of(alloc: Global, transcripts: &[Transcript]) -> Result<Sa
 }
 
 impl Sayings {
-    /// The next event that the process says it made.
+    /// Takes the next event that the process claims.
     pub(crate) fn take_due(&mut self, proc: &Proc) -> Option<Due>
         ensures some { IfSome result (λ d. TakesSaying self.old proc.now (audited_due d) self.new) }
         ensures none { IsNone result → rest_of self.old proc.now ≡ [] }
@@ -285,14 +286,14 @@ impl Sayings {
         }
     }
 
-    /// What each says.
+    /// Returns the claims of each process.
     pub(crate) fn as_slice(&self) -> &[Saying]
         ensures { result.now ≡ self.now }
     {
         &self.items
     }
 
-    /// Whether no event is left that a client says it made.
+    /// Returns whether all claimed events are matched.
     pub(crate) fn are_told(&self) -> bool
         ensures told { result ≡ true → Each (λ (s : SayingOf). s.dues.items ≡ []) self.now }
         ensures left { result ≡ false → SomeLeft self.now }

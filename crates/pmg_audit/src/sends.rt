@@ -1,4 +1,4 @@
-//! Frames that were sent, found by what they say.
+//! Sent frames, found by their content.
 ghost use Rattle.std.specs.Prelude.{◌≡◌, ◌++◌, ◌∷◌, [], slice_get, Some, IfSome, IsNone, OnOk, IsTrue, ◌↔◌};
 ghost use Rattle.pmg_value.specs.Lists.{In};
 ghost use Rattle.pmg_node_model.specs.Sending.{sent as sent_to};
@@ -11,11 +11,11 @@ use pmg_node_model::Sent;
 use std::alloc::{AllocError, Global};
 use std::collections::BTreeMap;
 
-/// Frames that were sent, in their order.
+/// The sent frames, in their order.
 pub(crate) struct Sends {
     alloc: Global,
     pub(crate) frames: Vec<Sent>,
-    /// Under each label the places of the frames that have it, rising, but for frames that say what an earlier one says.
+    /// Under each label the places of the frames with that label, rising. A frame equal to an earlier one has no place.
     places: BTreeMap<Label, Vec<usize>>,
 }
 
@@ -29,14 +29,14 @@ impl Drop for Sends {
     }
 }
 
-/// Whether the frame goes to that node and says the same.
+/// Returns whether the sent frame goes to that node and equals the frame.
 fn is_sent(sent: &Sent, node: u64, frame: &Frame) -> bool
     ensures { IsTrue result ↔ (sent.now ≡ sent_to node frame.now) }
 {
     sent.to.index() as u64 == node && sent.frame.is_same(frame)
 }
 
-/// Whether the frame at that place goes to the node and says the same.
+/// Returns whether the frame at that place goes to the node and equals the frame.
 fn is_sent_at(frames: &[Sent], place: usize, node: u64, frame: &Frame) -> bool
     ensures { IsTrue result ↔ (slice_get frames.now place ≡ Some (sent_to node frame.now)) }
 {
@@ -46,7 +46,7 @@ fn is_sent_at(frames: &[Sent], place: usize, node: u64, frame: &Frame) -> bool
     }
 }
 
-/// Which of these places has a frame that goes to the node and says the same: the first of them.
+/// Returns the first of these places whose frame goes to the node and equals the frame.
 fn place_among(frames: &[Sent], places: &[usize], node: u64, frame: &Frame) -> Option<usize>
     ensures some { IfSome result (λ k. slice_get frames.now k ≡ Some (sent_to node frame.now)) }
     ensures none { IsNone result → NoneAt frames.now (sent_to node frame.now) places.now }
@@ -60,7 +60,7 @@ fn place_among(frames: &[Sent], places: &[usize], node: u64, frame: &Frame) -> O
 }
 
 impl Sends {
-    /// No frames.
+    /// Makes an empty list of frames.
     pub(crate) fn new(alloc: Global) -> Sends
         ensures frames { result.frames.items ≡ [] }
         ensures numbered { AreNumbered result }
@@ -72,7 +72,7 @@ impl Sends {
         }
     }
 
-    /// The number of the first frame that was sent to the node and says the same.
+    /// Returns the number of the first sent frame that goes to the node and equals the frame.
     pub(crate) fn number_of(&self, node: u64, frame: &Frame) -> Option<u64>
         requires { AreNumbered self.now }
         ensures some { IfSome result (λ i.
@@ -85,7 +85,7 @@ impl Sends {
         Some(place as u64 + 1)
     }
 
-    /// The place of the next frame is kept under its label, unless an earlier one says the same.
+    /// Keeps the place of the next frame under its label, unless an earlier frame is equal.
     fn keep_place(&mut self, node: u64, frame: &Frame) -> Result<(), AllocError>
         requires { AreNumbered self.old }
         ensures frames { self.new.frames ≡ self.old.frames }
@@ -106,7 +106,7 @@ impl Sends {
         Ok(())
     }
 
-    /// The frame is sent after the others.
+    /// Appends the frame to the sent ones.
     pub(crate) fn push(&mut self, sent: Sent) -> Result<(), AllocError>
         requires { AreNumbered self.old }
         ensures frames { OnOk result (self.new.frames.items
@@ -118,7 +118,7 @@ impl Sends {
         Ok(())
     }
 
-    /// The frames.
+    /// Returns the frames.
     pub(crate) fn into_frames(self) -> Vec<Sent>
         ensures { result ≡ self.frames }
     {

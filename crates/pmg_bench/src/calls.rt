@@ -5,10 +5,11 @@ use pmg_value::{Key, NodeId, Nspace, Proc, Rank, Refusal, Value};
 use std::alloc::Global;
 use std::sync::Wait;
 
-/// The processes that are read, of one key each, at home at one node.
+/// The number of processes that are read, with one key each, at home at one node.
 const PROCESSES: u32 = 100;
 
-/// One client reads so often, without a wait, the addresses of all processes in turn: how many reads found the value.
+/// Reads the addresses of all processes in turn, by one client, so often and without a wait. Returns the number of reads that found the
+/// value.
 pub fn read_now<R: Wait>(rt: &R, alloc: Global, count: u64) -> Result<u64, Refusal> {
     let id = NodeId::new(0)?;
     let registry = registry(alloc, id)?;
@@ -21,7 +22,7 @@ pub fn read_now<R: Wait>(rt: &R, alloc: Global, count: u64) -> Result<u64, Refus
     found
 }
 
-/// A group of one node, at which all processes are at home.
+/// Makes a group of one node, at which all processes are at home.
 fn registry(alloc: Global, id: NodeId) -> Result<Registry, Refusal> {
     let names: [&[u8]; 1] = [b"n0"];
     let mut homes = Vec::new(alloc);
@@ -33,7 +34,7 @@ fn registry(alloc: Global, id: NodeId) -> Result<Registry, Refusal> {
     Ok(registry)
 }
 
-/// All put and commit their addresses, and then process 0 reads.
+/// Puts and commits the addresses of all processes, and then reads for process 0.
 fn found_at<R: Wait>(rt: &R, alloc: Global, desk: &Desk, count: u64) -> Result<u64, Refusal> {
     let key = Key::read(alloc, b"addr")?;
     let mut procs = Vec::new(alloc);
@@ -51,7 +52,7 @@ fn found_at<R: Wait>(rt: &R, alloc: Global, desk: &Desk, count: u64) -> Result<u
     }
 }
 
-/// The client puts its address and commits it.
+/// Puts the client's address and commits it.
 fn put_address<R: Wait>(
     rt: &R,
     alloc: Global,
@@ -64,7 +65,7 @@ fn put_address<R: Wait>(
     Ok(())
 }
 
-/// Reads so often the key of one process after the other.
+/// Reads so often the key of one process after another, and counts the values that were found.
 fn count_found(
     client: &mut Client<'_>,
     procs: &[Proc],

@@ -5,10 +5,10 @@ use pmg_jobinfo::Registry;
 use pmg_value::{NodeId, Nspace, Proc, Refusal};
 use std::alloc::Global;
 
-/// The participants of each fence: half of them at each of two nodes.
+/// The number of participants of each fence: half of them at each of two nodes.
 const PARTICIPANTS: u32 = 32;
 
-/// How many of them are at home at node 0.
+/// The number of participants at home at node 0.
 const FIRST_HALF: u32 = 16;
 
 /// The tables of two nodes.
@@ -23,7 +23,7 @@ impl Drop for Group {
     }
 }
 
-/// Enters and releases so many fences one after another, and tells whether each was ready at both nodes, with nobody gone.
+/// Enters and releases so many fences one after another, and returns whether each was ready at both nodes, with nobody gone.
 pub fn run(alloc: Global, count: u64) -> Result<bool, Refusal> {
     let procs = processes(alloc, PARTICIPANTS)?;
     let signature = Signature::new(processes(alloc, PARTICIPANTS)?, true)?;
@@ -39,7 +39,7 @@ pub fn run(alloc: Global, count: u64) -> Result<bool, Refusal> {
     Ok(true)
 }
 
-/// The table of the node of that index.
+/// Makes the table of the node of that index.
 fn table(alloc: Global, node: u32) -> Result<Table, Refusal> {
     let names: [&[u8]; 2] = [b"n0", b"n1"];
     let homes = homes(alloc)?;
@@ -48,7 +48,7 @@ fn table(alloc: Global, node: u32) -> Result<Table, Refusal> {
     Ok(Table::new(NodeId::new(node)?, registry))
 }
 
-/// Where the participants are at home, by rank.
+/// Returns the homes of the participants, by rank.
 fn homes(alloc: Global) -> Result<Vec<NodeId>, Refusal> {
     let mut homes = Vec::new(alloc);
     for rank in 0..PARTICIPANTS {
@@ -57,8 +57,8 @@ fn homes(alloc: Global) -> Result<Vec<NodeId>, Refusal> {
     Ok(homes)
 }
 
-/// All enter the next fence at their homes, and the headers are handed across: whether it is ready at both nodes then, with
-/// nobody gone.
+/// Enters all into the next fence at their homes, and exchanges the headers. Returns whether it is ready at both nodes then, with nobody
+/// gone.
 fn meet(group: &mut Group, signature: &Signature, procs: &[Proc]) -> Result<bool, Refusal> {
     let mut instance = 0;
     for proc in procs {
@@ -74,7 +74,7 @@ fn meet(group: &mut Group, signature: &Signature, procs: &[Proc]) -> Result<bool
     Ok(is_released(&group.zero, &name)? && is_released(&group.one, &name)?)
 }
 
-/// Hands the next own header across.
+/// Delivers the next own header to the other table.
 fn hand_over(from: &mut Table, to: &mut Table) -> Result<(), Refusal> {
     if let Some(header) = from.take_header() {
         to.put_header(header)?;
@@ -82,7 +82,7 @@ fn hand_over(from: &mut Table, to: &mut Table) -> Result<(), Refusal> {
     Ok(())
 }
 
-/// Whether the fence is ready, with nobody gone.
+/// Returns whether the fence is ready, with nobody gone.
 fn is_released(table: &Table, name: &FenceName) -> Result<bool, Refusal> {
     Ok(table.ready(name, |_| 0) && table.release(name)?.is_empty())
 }

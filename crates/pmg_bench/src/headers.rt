@@ -7,11 +7,11 @@ use pmg_value::{NodeId, Nspace, Refusal};
 use std::alloc::Global;
 use std::collections::VecDeque;
 
-/// The participants of each fence: those of the header, of ranks 1 to 4095 of one namespace, each entered at one level, and one at the
-/// node that is told.
+/// The participants of each fence: the participants of the header, with ranks 1 to 4095 of one namespace, each entered at one level, and
+/// one at the receiving node.
 const LOCALS: u32 = 4096;
 
-/// What is done with each header.
+/// The work for each header.
 #[derive(Clone, Copy, PartialEq)]
 pub enum Way {
     /// It is written as bytes.
@@ -22,7 +22,7 @@ pub enum Way {
     Delivered,
 }
 
-/// Does that with so many headers, in that version of frames: how many of them, which are all.
+/// Does the work with so many headers, in that version of frames, and returns their number.
 pub fn run(alloc: Global, way: Way, version: u8, count: u64) -> Result<u64, Refusal> {
     match way {
         Way::Written => write_all(alloc, version, count),
@@ -31,7 +31,7 @@ pub fn run(alloc: Global, way: Way, version: u8, count: u64) -> Result<u64, Refu
     }
 }
 
-/// The header that node 1 sends of the instance of that number: of all participants but the first, which is at home at node 0.
+/// Makes the header that node 1 sends of the instance of that number: with all participants except the first, which is at home at node 0.
 fn header(alloc: Global, signature: &Signature, instance: u64) -> Result<Header, Refusal> {
     let name = FenceName::new(signature.copy()?, instance)?;
     let mut locals = Vec::new(alloc);
@@ -47,7 +47,7 @@ fn header(alloc: Global, signature: &Signature, instance: u64) -> Result<Header,
     Header::new(NodeId::new(1)?, name, locals)
 }
 
-/// Writes one header so often.
+/// Writes one header as often as the count says.
 fn write_all(alloc: Global, version: u8, count: u64) -> Result<u64, Refusal> {
     let signature = Signature::new(processes(alloc, LOCALS)?, true)?;
     let frame = Frame::Header(header(alloc, &signature, 1)?);
@@ -57,7 +57,7 @@ fn write_all(alloc: Global, version: u8, count: u64) -> Result<u64, Refusal> {
     Ok(count)
 }
 
-/// Reads one header so often.
+/// Reads one header as often as the count says.
 fn read_all(alloc: Global, version: u8, count: u64) -> Result<u64, Refusal> {
     let signature = Signature::new(processes(alloc, LOCALS)?, true)?;
     let frame = Frame::Header(header(alloc, &signature, 1)?);
@@ -70,7 +70,7 @@ fn read_all(alloc: Global, version: u8, count: u64) -> Result<u64, Refusal> {
     Ok(read)
 }
 
-/// The registry of two nodes: the first process is at home at node 0, the others are at node 1.
+/// Makes the registry of two nodes: the first process is at home at node 0, the others are at node 1.
 fn registry(alloc: Global) -> Result<Registry, Refusal> {
     let names: [&[u8]; 2] = [b"n0", b"n1"];
     let mut homes = Vec::new(alloc);
@@ -82,7 +82,7 @@ fn registry(alloc: Global) -> Result<Registry, Refusal> {
     Ok(registry)
 }
 
-/// The node 0 of the group.
+/// Makes the node 0 of the group.
 fn told_node(alloc: Global) -> Result<Server, Refusal> {
     let node = NodeId::new(0)?;
     let registry = registry(alloc)?;
@@ -92,7 +92,7 @@ fn told_node(alloc: Global) -> Result<Server, Refusal> {
     Ok(Server::new(node, registry)?)
 }
 
-/// Hands the node the header of the instance of that number as bytes: how many frames it took.
+/// Delivers the header of the instance of that number to the node as bytes, and returns the number of frames that it took.
 fn tell(
     alloc: Global,
     node: &mut Server,

@@ -1,4 +1,5 @@
-//! What fences, reads and headers cost: each line on standard input is a number and, if it is not of fences, what is done so often.
+//! The cost of fences, reads and headers: each line on standard input is a number and, unless it is of fences, the name of the work to
+//! repeat.
 #![tactic(auto)]
 
 mod calls;
@@ -13,7 +14,7 @@ use std::alloc::Global;
 use std::io;
 use std::sync::Wait;
 
-/// What is done so often as a line says.
+/// The work that a line repeats.
 #[derive(Clone, Copy, PartialEq)]
 enum Work {
     Fences,
@@ -24,7 +25,7 @@ enum Work {
 }
 
 impl Work {
-    /// What is printed after the number.
+    /// Returns the text that is printed after the number.
     fn name(self) -> &'static str {
         match self {
             Work::Fences => "fences of 32 participants released",
@@ -51,7 +52,7 @@ fn main(rt: HostRuntime) -> io::Result<()> {
     Ok(())
 }
 
-/// What the line asks for, and the text of the number.
+/// Returns the work of the line, and the text of the number.
 fn work_of(line: &str) -> (Work, &str) {
     if let Some(number) = line.strip_suffix(" reads") {
         return (Work::Reads, number);
@@ -68,7 +69,7 @@ fn work_of(line: &str) -> (Work, &str) {
     }
 }
 
-/// What is done with headers, by the words for it: in version 2 of frames where they do not end in 1.
+/// Returns the work on headers with this name: in version 2 of frames unless the name ends in 1.
 fn headers_of(how: &str) -> Work {
     let version = if how.strip_suffix(" 1").is_some() {
         1
@@ -84,7 +85,8 @@ fn headers_of(how: &str) -> Work {
     Work::Headers(Way::Delivered, version)
 }
 
-/// How often it was done: as often as the text says, or not at all where it is no number.
+/// Does the work as often as the text says, and returns how often it succeeded. Errors: `BadParam` if the text is no number; the refusals
+/// of the work.
 fn times_done<R: Wait>(rt: &R, alloc: Global, work: Work, text: &str) -> Result<u64, Refusal> {
     let Ok(count) = text.parse::<u64>() else {
         return Err(Refusal::BadParam);
@@ -98,7 +100,7 @@ fn times_done<R: Wait>(rt: &R, alloc: Global, work: Work, text: &str) -> Result<
     }
 }
 
-/// How many fences were released: all of them, or none.
+/// Enters and releases so many fences, and returns the number of released fences: all of them, or zero.
 fn fences_released(alloc: Global, count: u64) -> Result<u64, Refusal> {
     if fences::run(alloc, count)? {
         Ok(count)

@@ -1,12 +1,12 @@
 use pmg_value::{Nspace, Proc, Rank, Refusal};
 use std::alloc::Global;
 
-/// The process of that rank.
+/// Returns the process of that rank.
 pub fn process(alloc: Global, rank: u32) -> Result<Proc, Refusal> {
     Ok(Proc::new(Nspace::read(alloc, b"j")?, Rank::new(rank)))
 }
 
-/// So many processes, from rank 0 on.
+/// Returns so many processes, from rank 0 on.
 pub fn processes(alloc: Global, count: u32) -> Result<Vec<Proc>, Refusal> {
     let mut procs = Vec::new(alloc);
     for rank in 0..count {

@@ -5,10 +5,10 @@ use pmg_value::{Key, Nspace, Proc, Rank, Refusal, Value};
 use std::alloc::{AllocError, Global};
 use std::sync::{Mutex, Wait};
 
-/// The processes that are read, of one key each.
+/// The number of processes that are read, with one key each.
 const PROCESSES: u32 = 100;
 
-/// What is read, of whom, and the pieces that say it.
+/// The input of the reads: a key, the processes, and the pieces with their values.
 struct Asked {
     key: Key,
     procs: Vec<Proc>,
@@ -21,7 +21,7 @@ impl Drop for Asked {
     }
 }
 
-/// Reads so often from what is published, by one viewer: how many reads found the value.
+/// Reads the published board so often, by one viewer. Returns the number of reads that found the value.
 pub fn read_published<R: Wait>(rt: &R, alloc: Global, count: u64) -> Result<u64, Refusal> {
     let asked = make_asked(alloc)?;
     let (mut publisher, mut viewers) = publisher(rt, alloc, 1)?;
@@ -55,7 +55,7 @@ fn published_found<R: Wait>(
     Ok(found)
 }
 
-/// Copies of the pieces, in their order.
+/// Returns copies of the pieces, in their order.
 fn copies_of(alloc: Global, pieces: &[Piece]) -> Result<Vec<Piece>, AllocError> {
     let mut copies = Vec::with_capacity(alloc, pieces.len())?;
     for piece in pieces {
@@ -64,7 +64,7 @@ fn copies_of(alloc: Global, pieces: &[Piece]) -> Result<Vec<Piece>, AllocError> 
     Ok(copies)
 }
 
-/// Reads so often from a board under a lock, what a viewer reads: how many reads found the value.
+/// Reads a board under a lock so often, with the contents of a viewer's read. Returns the number of reads that found the value.
 pub fn read_locked<R: Wait>(rt: &R, alloc: Global, count: u64) -> Result<u64, Refusal> {
     let asked = make_asked(alloc)?;
     let mut board = Board::new(alloc);
@@ -80,7 +80,7 @@ pub fn read_locked<R: Wait>(rt: &R, alloc: Global, count: u64) -> Result<u64, Re
     Ok(found)
 }
 
-/// Whether there is a far value, once what a viewer reads is copied.
+/// Copies the contents of a viewer's read, and returns whether there is a far value.
 fn is_found(board: &Board, proc: &Proc, key: &Key) -> Result<bool, AllocError> {
     let near = board.near().look(proc, key);
     let far = board.far().look(proc, key);
@@ -88,7 +88,7 @@ fn is_found(board: &Board, proc: &Proc, key: &Key) -> Result<bool, AllocError> {
     Ok(far_value.is_some() && near_value.is_some() && !near.ended && !far.ended)
 }
 
-/// A copy of the value, if there is one.
+/// Returns a copy of the value, if there is one.
 fn copy_of(value: Option<&Value>) -> Result<Option<Value>, AllocError> {
     match value {
         Some(value) => Ok(Some(value.copy()?)),
@@ -96,7 +96,7 @@ fn copy_of(value: Option<&Value>) -> Result<Option<Value>, AllocError> {
     }
 }
 
-/// The processes of one namespace, and of each a commit of the key with a string.
+/// Makes the processes of one namespace, and for each a commit of the key with a string.
 fn make_asked(alloc: Global) -> Result<Asked, Refusal> {
     let mut asked = Asked {
         key: Key::read(alloc, b"addr")?,
@@ -111,7 +111,7 @@ fn make_asked(alloc: Global) -> Result<Asked, Refusal> {
     Ok(asked)
 }
 
-/// A commit of the process, of the key with a string.
+/// Makes a commit of the process, of the key with a string.
 fn piece_of(alloc: Global, proc: &Proc, key: &Key) -> Result<Piece, Refusal> {
     let value = Value::string(alloc, b"tcp://10.0.0.1:40000")?;
     let key = key.copy()?;

@@ -13,6 +13,6 @@ use Rattle.pmg_commands.specs.Text.{decoded}
 unfoldable pub dump_text : List ℕ → Result (List ℕ) Fault
 dump_text text = input_of text >>= λ kept. decoded kept >>= stream_dump
 
--- what `dump` prints for a text
+-- the output of `dump` for a text
 abbrev pub dump_output : List ℕ → Output
 dump_output text = output_of (or_failure (dump_text text))

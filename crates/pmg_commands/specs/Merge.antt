@@ -14,22 +14,22 @@ use Rattle.pmg_commands.specs.Output.{Output, output_of}
 use Rattle.pmg_commands.specs.Text.{decoded}
 use Rattle.pmg_store.specs.declared.merge.TheConstants.{MAX_STREAMS}
 
--- a line `--`, with what ends it: LF, CR and LF, a CR at the end of the input, or nothing there
+-- a line `--`, with its ending: LF, CR and LF, a CR at the end of the input, or no ending there
 abbrev pub is_separator : List ℕ → Bool
 is_separator line =
     bytes_eq line (codes "--\n") || (bytes_eq line (codes "--") || (bytes_eq line (codes "--\r\n") || bytes_eq line (codes "--\r")))
 
--- where the text of a stream stands in the input
+-- the place of a stream's text in the input
 pub record Span : Type 0 where
   pub start : ℕ
   pub end : ℕ
 
--- the text stands from start to end
+-- the text from start to end
 abbrev pub span : ℕ → ℕ → Span
 span start end = record { start = start; end = end }
 
--- The texts of the streams, where that of the first has begun at a start and goes on at an end. A text ends where its
--- separator begins, and the next one begins after it.
+-- The texts of the streams, if the first one has begun at a start and goes on at an end. A text ends before its separator, and the next
+-- text begins after it.
 abbrev pub spans_from : ℕ → ℕ → List (List ℕ) → List Span
 spans_from start end [] = span start end ∷ []
 spans_from start end (line ∷ lines) =
@@ -53,24 +53,24 @@ moved start (Err f) = Err (fault (start + f.offset) f.cause)
 abbrev pub decoded_at : List ℕ → Span → Result (List ℕ) Fault
 decoded_at text s = moved s.start (decoded (text_at text s))
 
--- those of each stream, or the first fault of the first text that has one
+-- the bytes of each stream, or the first fault of the first faulty text
 abbrev pub decoded_all : List ℕ → List Span → Result (List (List ℕ)) Fault
 decoded_all text [] = Ok []
 decoded_all text (s ∷ ss) = decoded_at text s >>= λ bytes. decoded_all text ss >>= λ others. Ok (bytes ∷ others)
 
--- what is due where there is no such fault
+-- the next result, unless there is such a fault
 abbrev pub unless_fault : {X Y : Type 0} → Result X Fault → (X → Result Y Failure) → Result Y Failure
 unless_fault (Ok x) next = next x
 unless_fault (Err f) next = Err (Refused (BadFrame f))
 
--- the dump of the streams whose texts these are: of more than 64 none is decoded, and all are decoded before any is read
+-- the dump of the streams with these texts: if there are more than 64, no stream is decoded, and all are decoded before any is read
 unfoldable pub spans_merge : List ℕ → List Span → Result (List ℕ) Failure
 spans_merge text spans = if nat_lt MAX_STREAMS (length spans) then Err too_many else unless_fault (decoded_all text spans) merge_of
 
--- the dump of the streams whose texts an input holds
+-- the dump of the streams that an input holds
 unfoldable pub merge_text : List ℕ → Result (List ℕ) Failure
 merge_text text = unless_fault (input_of text) λ kept. spans_merge kept (spans_of kept)
 
--- what `merge` prints for a text
+-- the output of `merge` for a text
 abbrev pub merge_output : List ℕ → Output
 merge_output text = output_of (merge_text text)

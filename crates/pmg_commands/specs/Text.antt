@@ -11,11 +11,11 @@ use Rattle.pmg_wire.specs.Reading.{fault}
 abbrev pub is_white : ℕ → Bool
 is_white byte = byte == 32 || byte == 9 || byte == 13 || byte == 10
 
--- a byte that hexadecimal text does not have
+-- a byte that is not allowed in hexadecimal text
 abbrev pub is_stray : ℕ → Bool
 is_stray byte = not (is_white byte) && not (is_hex_digit byte)
 
--- the digits of a text, where it has no stray byte
+-- the digits of a text without a stray byte
 abbrev pub digits_of : List ℕ → List ℕ
 digits_of text = filter (λ byte. not (is_white byte)) text
 
@@ -29,12 +29,12 @@ paired [] = []
 paired (digit ∷ []) = []
 paired (high ∷ low ∷ rest) = (digit_value high * 16 + digit_value low) ∷ paired rest
 
--- the bytes that are spelled, unless there is a stray byte
+-- the spelled bytes, unless there is a stray byte
 abbrev pub unless_stray : Option ℕ → List ℕ → Result (List ℕ) Fault
 unless_stray None digits = Ok (paired digits)
 unless_stray (Some offset) digits = Err (fault offset causes.Hex)
 
--- the bytes that a text spells; else a fault: at its end where a digit has no partner, or at the first stray byte
+-- the bytes that a text spells; else a fault: at its end if a digit has no partner, or at the first stray byte
 unfoldable pub decoded : List ℕ → Result (List ℕ) Fault
 decoded text =
     if length (digits_of text) % 2 == 1 then Err (fault (length text) causes.Hex)

@@ -13,7 +13,7 @@ use std::io::ErrorKind;
 use std::rt::Env;
 use std::{env, io};
 
-/// What the command line asks for.
+/// The request of the command line.
 #[derive(Clone, Copy, Debug, PartialEq, Eq)]
 pub enum Chosen {
     /// The command `dump`.
@@ -98,7 +98,7 @@ Example:
 
 /// Reads the command line. Help and the version go to standard output, a usage fault to standard error.
 ///
-/// Fails with `InvalidData` where an argument is not UTF-8.
+/// Errors: `InvalidData` if an argument is not UTF-8.
 pub fn read_command_line<R: Env + Print + Eprint + AllocGlobal>(rt: &R) -> io::Result<Chosen>
     ensures { IfOk result HasStatus }
 {
@@ -106,7 +106,7 @@ pub fn read_command_line<R: Env + Print + Eprint + AllocGlobal>(rt: &R) -> io::R
     choose(rt, words.as_slice())
 }
 
-/// What these words ask for, the program's name first. Help, the version and a usage fault are shown.
+/// Returns the request of these words, which begin with the program's name. Help, the version and a usage fault are shown.
 pub fn choose<R: Print + Eprint + AllocGlobal, S: AsStr>(rt: &R, words: &[S]) -> io::Result<Chosen>
     ensures chosen { IfOk result (IsChosen (map S.text words.now)) }
     ensures dump { (name : List ℕ) → map S.text words.now ≡ name ∷ codes "dump" ∷ [] → IfOk result (λ chosen. chosen ≡ Chosen.Dump) }
@@ -126,7 +126,7 @@ pub fn choose<R: Print + Eprint + AllocGlobal, S: AsStr>(rt: &R, words: &[S]) ->
     }
 }
 
-/// The command that the words named. `clap` takes no words that name none of them.
+/// Returns the command that the words named. `clap` refuses words that name no command.
 fn chosen_by(matches: &ArgMatches) -> Chosen
     ensures { result ≡ chosen_of (subcommand_name_of matches.now) }
 {
@@ -139,7 +139,7 @@ fn chosen_by(matches: &ArgMatches) -> Chosen
     }
 }
 
-/// Prints what the words were answered with, where that was not a failed allocation.
+/// Prints the answer of `clap` to the words, unless it is a failed allocation.
 fn show(rt: &(impl Print + Eprint), error: &Error) -> io::Result<Chosen>
     ensures shown { IfOk result (λ chosen. chosen ≡ Chosen.Shown (shown_status (kind_of error.now))) }
     ensures kind { IfOk result (λ _. kind_of error.now ≢ Kind.OutOfMemory) }
@@ -161,7 +161,7 @@ fn status_of(kind: Kind) -> u8
     }
 }
 
-/// The command line: the program with its commands.
+/// Returns the command line: the program with its commands.
 fn command_line<'a>(alloc: Global) -> io::Result<Command<'a>>
     ensures ok { IfOk result (λ command. app_of command ≡ program) }
     ensures err { IfErr result (λ e. error_kind e ≡ ErrorKind.OutOfMemory) }
@@ -174,7 +174,7 @@ fn command_line<'a>(alloc: Global) -> io::Result<Command<'a>>
     Ok(command)
 }
 
-/// The program before its commands.
+/// Returns the program before its commands.
 fn bare_command<'a>(alloc: Global) -> io::Result<Command<'a>>
     ensures ok { IfOk result (λ command. app_of command ≡ bare_program) }
     ensures err { IfErr result (λ e. error_kind e ≡ ErrorKind.OutOfMemory) }
@@ -188,7 +188,7 @@ fn bare_command<'a>(alloc: Global) -> io::Result<Command<'a>>
     Ok(command)
 }
 
-/// One command more, with its help.
+/// Adds another command, with its help.
 fn with_command<'a>(
     alloc: Global,
     command: Command<'a>,

@@ -12,12 +12,11 @@ use std::alloc::Global;
 use std::io::{Read, Write};
 use std::mem;
 
-/// Reads hexadecimal text to its end, prints the dump of the frames that it encodes, and answers the status.
+/// Reads hexadecimal text to its end, prints the dump of the frames that it encodes, and returns the status.
 ///
-/// Nothing is printed before the whole input was read without a fault. Status 1 for a refused input, a read
-/// fault and a write fault, 3 where an allocation failed. A refusal and a read fault print a line, and a reader that failed
-/// is always told as a read fault; where the writer fails, nothing more is printed. The store is not dropped: the program ends
-/// after its dump.
+/// The function prints nothing before it has read the whole input without a fault. The status is 1 for a refused input, a read fault and a
+/// write fault, and 3 if an allocation failed. A refusal and a read fault print a line. A failure of the reader is always reported as a
+/// read fault. If the writer fails, nothing more is printed. The store is leaked on purpose: the program ends after its dump.
 pub fn run_dump<R: Read, W: Write>(
     alloc: Global,
     reader: &mut WatchedReader<R>,
@@ -54,7 +53,7 @@ fn dump_text<R: Read, W: Write>(
     drop(text);
     let store = store_of_stream(alloc, &frames)?;
     let written = store.dump(writer);
-    // The program ends now, and what it holds goes back as a whole: to take the store apart would only take time.
+    // The program ends now and frees its memory as a whole: taking the store apart would only cost time.
     mem::forget(store);
     written
 }

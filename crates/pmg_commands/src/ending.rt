@@ -1,4 +1,4 @@
-//! How a program ends: what it tells of its streams on standard error, and what fails before a command starts.
+//! The end of a program: its reports on standard error about its streams, and the failures before a command starts.
 ghost use Rattle.std.specs.Prelude.{◌≡◌, ◌≢◌, ◌≤◌, ◌↔◌};
 ghost use Rattle.std.specs.IoError.{error_kind};
 ghost use Rattle.pmg_value.specs.declared.refusal.Refusal.TheVariants.{NoMemory};
@@ -12,7 +12,7 @@ use pmg_value::{Refusal, WatchedWriter};
 use std::io;
 use std::io::{ErrorKind, Read, Write};
 
-/// Tells on standard error why standard input failed, and why standard output did, where they did.
+/// Reports on standard error why standard input failed, and why standard output failed, if they did.
 pub fn tell_failures<R: Read, W: Write>(
     rt: &impl Eprint,
     reader: &WatchedReader<R>,
@@ -26,8 +26,8 @@ pub fn tell_failures<R: Read, W: Write>(
     }
 }
 
-/// Tells of what fails before a command starts, which is an allocation, an argument that is no text, or standard output, and
-/// answers the status.
+/// Reports a failure before a command starts, and returns the status. Such a failure is an allocation, an argument that is not UTF-8, or
+/// standard output.
 pub fn end_with<W: Write>(rt: &impl Eprint, writer: &mut WatchedWriter<W>, error: &io::Error) -> u8
     ensures usage { (result ≡ 2) ↔ (error_kind error.now ≡ ErrorKind.InvalidData) }
     ensures memory { error_kind error.now ≡ ErrorKind.OutOfMemory

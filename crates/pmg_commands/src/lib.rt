@@ -1,5 +1,5 @@
-//! What the programs share: the command line, and how a command and a program end; and the commands `dump` and `merge`, which
-//! need stores alone.
+//! The parts that the programs share: the command line, and the end of a command and of a program. Also the commands `dump` and `merge`,
+//! which need only stores.
 #![tactic(auto)]
 
 mod command;

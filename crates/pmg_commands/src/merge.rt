@@ -14,13 +14,11 @@ use pmg_value::{Fault, Refusal, WatchedWriter};
 use std::alloc::Global;
 use std::io::{Read, Write};
 
-/// Reads hexadecimal text to its end, prints the dump of the streams that it encodes, and answers the status. A line
-/// `--` ends a stream.
+/// Reads hexadecimal text to its end, prints the dump of the streams that it encodes, and returns the status. A line `--` ends a stream.
 ///
-/// Nothing is printed before the whole input was read without a fault. Status 1 for a refused input, a read fault and
-/// a write fault, 3 where an allocation failed. A refusal and a read fault print a line, that of a stream's fault with
-/// the stream's number, counted from 1, and a reader that failed is always told as a read fault; where the writer fails,
-/// nothing more is printed.
+/// The function prints nothing before it has read the whole input without a fault. The status is 1 for a refused input, a read fault and a
+/// write fault, and 3 if an allocation failed. A refusal and a read fault print a line. The line of a stream's fault has the stream's
+/// number, counted from 1. A failure of the reader is always reported as a read fault. If the writer fails, nothing more is printed.
 pub fn run_merge<R: Read, W: Write>(
     alloc: Global,
     reader: &mut WatchedReader<R>,
@@ -61,7 +59,7 @@ fn merge_text<R: Read, W: Write>(
     merge_inputs(alloc, &streams, writer)
 }
 
-/// How many lines end a stream.
+/// Returns the number of lines that end a stream.
 fn separators(text: &[u8]) -> usize
     ensures { result ≡ count_by is_separator (lines_of text.now) }
 {
@@ -70,14 +68,14 @@ fn separators(text: &[u8]) -> usize
         .count()
 }
 
-/// Whether the line is `--`, whatever ends it.
+/// Returns whether the line is `--`, with any line ending.
 fn is_separator(line: &[u8]) -> bool
     ensures { result ≡ is_separator line.now }
 {
     matches!(line, b"--\n" | b"--" | b"--\r\n" | b"--\r")
 }
 
-/// The bytes of each stream. Refused as BadFrame at the first fault of the texts, and as NoMemory.
+/// Decodes the bytes of each stream. Errors: `BadFrame` at the first fault of the texts; `NoMemory`.
 fn decode_streams(alloc: Global, text: &[u8]) -> Result<Vec<Vec<u8>>, Refusal>
     ensures streams { IfOk result (λ streams. decoded_all text.now (spans_of text.now)
         ≡ Ok (map (λ s. s.items) streams.items)) }
@@ -99,7 +97,7 @@ fn decode_streams(alloc: Global, text: &[u8]) -> Result<Vec<Vec<u8>>, Refusal>
     Ok(streams)
 }
 
-/// The bytes of the stream whose text stands there. The offset of a fault counts from the start of the whole input.
+/// Decodes the bytes of the stream whose text is between the offsets. The offset of a fault counts from the start of the whole input.
 fn decode_stream(alloc: Global, text: &[u8], start: usize, end: usize) -> Result<Vec<u8>, Refusal>
     requires order { start ≤ end }
     requires within { end ≤ length text.now }

@@ -1,4 +1,4 @@
-//! How a command ends: the line of its failure, the flush, and its status.
+//! The end of a command: the line of its failure, the flush, and its status.
 ghost use Rattle.std.specs.Prelude.{◌≡◌, ◌⊎◌, ◌++◌, codes, IsNone, IsSome, IsTrue, OnErr};
 ghost use Rattle.std.specs.Io.KnownBytes.{Appends};
 ghost use Rattle.pmg_value.specs.RefusalText.{refusal_text};
@@ -10,8 +10,8 @@ use pmg_store::Failure;
 use pmg_value::{Fault, Refusal, WatchedWriter, WriteFault};
 use std::io::Write;
 
-/// Ends a command: prints the line of its failure, if it has one, flushes the writer, and answers the status. Where the
-/// writer has failed the status is 1, and nothing more is printed.
+/// Ends a command: prints the line of its failure, if it has one, flushes the writer, and returns the status. If the writer has failed,
+/// the status is 1, and nothing more is printed.
 pub fn conclude<W: Write>(writer: &mut WatchedWriter<W>, outcome: Result<(), Failure>) -> u8
     ensures printed { Prints (W.contents writer.old.writer) (W.contents writer.new.writer) writer.new.failure
         result (outcome_output outcome) }
@@ -26,8 +26,7 @@ pub fn conclude<W: Write>(writer: &mut WatchedWriter<W>, outcome: Result<(), Fai
     finish(writer, status)
 }
 
-/// Ends a command that has printed all of its lines: flushes the writer, and answers the status, which is 1 where the
-/// writer has failed.
+/// Ends a command that has printed all of its lines: flushes the writer, and returns the status, which is 1 if the writer has failed.
 pub fn finish<W: Write>(writer: &mut WatchedWriter<W>, status: u8) -> u8
     ensures printed { Prints (W.contents writer.old.writer) (W.contents writer.new.writer) writer.new.failure
         result (status_alone status) }
@@ -39,7 +38,7 @@ pub fn finish<W: Write>(writer: &mut WatchedWriter<W>, status: u8) -> u8
     if writer.has_failed() { FAILED } else { status }
 }
 
-/// Prints the failure's line, unless the writer has failed, and answers the failure's status.
+/// Prints the failure's line, unless the writer has failed, and returns the failure's status.
 fn report<W: Write>(writer: &mut WatchedWriter<W>, failure: &Failure) -> u8
     ensures line { IsNone writer.new.failure
         → Appends (W.contents writer.old.writer) (W.contents writer.new.writer) (failure_line failure.now) }

@@ -10,11 +10,10 @@ use hex::FromHexError;
 use pmg_value::{Cause, Fault, Refusal};
 use std::alloc::{AllocError, Global};
 
-/// The bytes that hexadecimal text spells, two digits each, in either case. Blanks, tabs, CR and LF are
-/// ignored wherever they stand.
+/// Decodes the bytes that hexadecimal text spells, two digits each, in either case. Blanks, tabs, CR and LF are ignored everywhere.
 ///
-/// Refused as `BadFrame` with the cause Hex: at the end of the text where an odd number of its bytes is not
-/// ignored, else at the first of them that is no digit. An allocation that fails is `NoMemory`, and ends the call.
+/// Errors: `BadFrame` with the cause Hex, at the end of the text if an odd number of its bytes is not ignored, else at the first such byte
+/// that is not a digit; `NoMemory` if an allocation fails, which ends the call.
 pub fn decode_text(alloc: Global, text: &[u8]) -> Result<Vec<u8>, Refusal>
     ensures bytes { IfOk result (λ bytes. decoded text.now ≡ Ok bytes.items) }
     ensures fault { IfErr result (λ refusal. FailsReading refusal (decoded text.now)) }
@@ -25,7 +24,7 @@ pub fn decode_text(alloc: Global, text: &[u8]) -> Result<Vec<u8>, Refusal>
     }
 }
 
-/// What `decode_text` answers, found by the digits of the whole text.
+/// Returns the answer of `decode_text`, from the digits of the whole text.
 fn decode_digits(alloc: Global, text: &[u8]) -> Result<Vec<u8>, Refusal>
     ensures bytes { IfOk result (λ bytes. decoded text.now ≡ Ok bytes.items) }
     ensures fault { IfErr result (λ refusal. FailsReading refusal (decoded text.now)) }
@@ -43,7 +42,7 @@ fn decode_digits(alloc: Global, text: &[u8]) -> Result<Vec<u8>, Refusal>
     }
 }
 
-/// The bytes that digits spell, two each; none where they spell none.
+/// Decodes the bytes that digits spell, two each. Returns `None` if the digits spell no bytes.
 fn bytes_of(alloc: Global, digits: &[u8]) -> Result<Option<Vec<u8>>, AllocError>
     ensures { IfOk result (λ found. MatchOption found (IsErr (decode_of digits.now))
         (λ bytes. decode_of digits.now ≡ Ok bytes.items)) }
@@ -55,7 +54,7 @@ fn bytes_of(alloc: Global, digits: &[u8]) -> Result<Option<Vec<u8>>, AllocError>
     }
 }
 
-/// The bytes of a text each of whose lines is an even number of digits; of another text none.
+/// Decodes the bytes of a text if each of its lines is an even number of digits. Returns `None` for another text.
 fn decode_lines(alloc: Global, text: &[u8]) -> Result<Option<Vec<u8>>, AllocError>
     ensures { IfOk result (λ found. IfSome found (λ bytes. decoded text.now ≡ Ok bytes.items)) }
 {
@@ -69,8 +68,8 @@ fn decode_lines(alloc: Global, text: &[u8]) -> Result<Option<Vec<u8>>, AllocErro
     Ok(Some(bytes))
 }
 
-/// Puts the bytes that a line spells after the others, and says whether it is an even number of digits. Where it is not, what comes
-/// after the others says nothing.
+/// Appends the bytes that a line spells, and returns whether the line is an even number of digits. If it is not, the appended bytes have
+/// no meaning.
 fn push_line(bytes: &mut Vec<u8>, line: &[u8]) -> Result<bool, AllocError>
     ensures others { OnOk result (take (length bytes.old.items) bytes.new.items ≡ bytes.old.items) }
     ensures line { IfOk result (λ is_spelled. IsTrue is_spelled → decode_of line.now ≡ Ok (drop (length bytes.old.items) bytes.new.items)) }
@@ -81,7 +80,7 @@ fn push_line(bytes: &mut Vec<u8>, line: &[u8]) -> Result<bool, AllocError>
     Ok(line.len() % 2 == 0 && decode_line(line, &mut bytes[start..]))
 }
 
-/// Decodes digits, two for each of these bytes, and says whether all of them are digits.
+/// Decodes digits, two for each of these bytes, and returns whether all of them are digits.
 fn decode_line(digits: &[u8], bytes: &mut [u8]) -> bool
     requires { length digits.now ≡ 2 * length bytes.old }
     ensures { IsTrue result → decode_of digits.now ≡ Ok bytes.new }

@@ -1,4 +1,4 @@
--- What a call answers, as numbers: codes, and what goes into buffers.
+-- The answers of a call, as numbers: codes, and the contents of buffers.
 use Rattle.std.specs.Prelude.{◌≡◌, ◌≢◌, ◌⊎◌, ℕ, ◌+◌, ◌==◌, ◌<◌, ◌≤◌, List, ◌++◌, length, Option, Some, None, drop, option_map, if◌then◌else◌}
 use Rattle.pmg_value.specs.Refusals.{name_of, number_of}
 use Rattle.pmg_value.specs.declared.refusal.Cause.TheVariants as causes
@@ -23,7 +23,7 @@ reply_code Reply.ignored = IGNORED
 reply_code (Reply.ended n) = DONE
 reply_code (Reply.defined n) = DONE
 
--- the number that a reply tells, and else the one that is there
+-- the number in a reply, else the old one
 unfoldable pub number_or : ℕ → Reply → ℕ
 number_or old (Reply.committed n) = n
 number_or old (Reply.entered n) = n
@@ -32,7 +32,7 @@ number_or old (Reply.ended n) = n
 number_or old (Reply.defined n) = n
 number_or old _ = old
 
--- how a process stands, by number
+-- the status of a process, by number
 abbrev pub status_number : Status → ℕ
 status_number Status.stranger = 0
 status_number Status.idle = 1
@@ -42,8 +42,8 @@ status_number Status.parked = 4
 status_number Status.answered = 5
 status_number Status.ended = 6
 
--- The bytes go to the front of the buffer, and the rest of it stays; or it is too small, and stays as it was. Either way the length
--- is theirs. NoMemory leaves both.
+-- The bytes go to the front of the buffer, and the rest of it stays; or the buffer is too small, and stays unchanged. Both set the length
+-- of the bytes. NoMemory leaves buffer and length.
 pub record Fills (bytes old : List ℕ) (old_len code : ℕ) (new : List ℕ) (new_len : ℕ) : Type 0 where
   pub codes : (code ≡ DONE) ⊎ ((code ≡ TOO_SMALL) ⊎ (code ≡ NO_MEMORY))
   pub done : code ≡ DONE → new ≡ bytes ++ drop (length bytes) old
@@ -53,7 +53,7 @@ pub record Fills (bytes old : List ℕ) (old_len code : ℕ) (new : List ℕ) (n
   pub len : code ≢ NO_MEMORY → new_len ≡ length bytes
   pub kept_len : code ≡ NO_MEMORY → new_len ≡ old_len
 
--- the refusal of that code, if it is one's; of bytes that are no frame, one at their start
+-- the refusal of that code, if the code belongs to a refusal; the refusal of bytes that are no frame has its fault at their start
 abbrev pub refusal_coded : ℕ → Option Refusal
 refusal_coded code =
     if code == 16 then Some refusals.NoMemory
@@ -74,6 +74,6 @@ refusal_coded code =
     else if code == 31 then Some refusals.Closed
     else None
 
--- its name
+-- the name of the refusal of that code
 abbrev pub refusal_named : ℕ → Option (List ℕ)
 refusal_named code = option_map name_of (refusal_coded code)

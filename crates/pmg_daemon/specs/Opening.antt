@@ -1,4 +1,4 @@
--- A daemon's node that is opened.
+-- The opening of a daemon's node.
 use Rattle.std.specs.Prelude.{◌≡◌, ◌⊎◌, ℕ, ◌+◌, true, false, List, [], length, Some, None, Ok, Err}
 use Rattle.pmg_value.specs.Lists.{Each}
 use Rattle.pmg_value.specs.Refusals.{number_of}
@@ -13,13 +13,13 @@ use Rattle.pmg_link.specs.declared.inbox.Inbox.{Inbox}
 use Rattle.pmg_daemon.specs.declared.codes.TheConstants.{REFUSED}
 use Rattle.pmg_daemon.specs.declared.daemon.Daemon.{Daemon}
 
--- nothing came into the inbox yet
+-- nothing has come into the inbox yet
 pub record IsNewInbox (i : Inbox) : Type 0 where
   pub stream : i.stream ≡ Some (record { offset = 0; rest = [] })
   pub frames : i.frames.items ≡ []
   pub fault : i.fault ≡ None
 
--- It is the node of that index in the group that the text describes, and nothing was asked of it yet.
+-- It is the node of that index in the group that the text describes, without calls so far.
 pub record OpensNode (id : ℕ) (group : List ℕ) (d : Daemon) : Type 0 where
   pub group_is : group_in group ≡ Ok d.link.node.jobs
   pub node : is_node d.link.node.jobs id ≡ true
@@ -29,11 +29,11 @@ pub record OpensNode (id : ℕ) (group : List ℕ) (d : Daemon) : Type 0 where
   pub list : d.list.items ≡ []
   pub reply : d.reply ≡ replies.Done
 
--- None is opened for this refusal: the text's, or the group has no node of that index.
+-- The reason why no node is opened: the refusal of the text, or the group has no node of that index.
 abbrev pub RefusesToOpen : ℕ → List ℕ → Refusal → Type 0
 RefusesToOpen id group e =
     ReadsGroup (λ (jobs : Jobs). jobs) (Err e) (group_in group) ⊎ ((e ≡ refusals.BadParam) × ((jobs : Jobs) × ((group_in group ≡ Ok jobs) × (is_node jobs id ≡ false))))
 
--- The code tells such a refusal.
+-- The code is the code of such a refusal.
 abbrev pub FailsToOpen : ℕ → List ℕ → ℕ → Type 0
 FailsToOpen id group code = (e : Refusal) × ((code ≡ REFUSED + number_of e) × RefusesToOpen id group e)

@@ -1,4 +1,4 @@
-//! What a process asks of its node, read from bytes and numbers.
+//! The calls of a process on its node, read from bytes and numbers.
 ghost use Rattle.std.specs.Prelude.{◌≡◌, Err, IfOk, IsTrue};
 ghost use Rattle.pmg_value.specs.Names.{is_nspace};
 ghost use Rattle.pmg_value.specs.Spelling.{spelling};
@@ -32,13 +32,13 @@ use pmg_value::{Key, Nspace, Proc, Rank, Refusal, Value, copy_all, is_key_text, 
 use pmg_wire::value_from_bytes;
 use std::alloc::{AllocError, Global};
 
-/// What a process asks of its node.
+/// A call of a process on its node.
 pub(crate) enum ProcCall {
     /// The process puts the value under the key.
     Put(Proc, Scope, Key, Value),
-    /// The process commits what it put.
+    /// The process commits its puts.
     Commit(Proc),
-    /// It asks for something else, or the one who runs the node does.
+    /// A request of the process, or of the program that runs the node.
     Request(Request),
 }
 
@@ -71,7 +71,8 @@ impl ProcCall {
     }
 }
 
-/// The process of that namespace, which may have any name, and that rank. Refused as BadParam where the name is none, and as NoMemory.
+/// Returns the process of that namespace, which may have any valid name, and that rank. Errors: `BadParam` if the name is invalid;
+/// `NoMemory`.
 pub(crate) fn proc_said(alloc: Global, nspace: &[u8], rank: u32) -> Result<Proc, Refusal>
     ensures { ReadsArguments (λ p. p) result (proc_said nspace.now rank) }
 {
@@ -79,7 +80,7 @@ pub(crate) fn proc_said(alloc: Global, nspace: &[u8], rank: u32) -> Result<Proc,
     Ok(Proc::new(nspace, Rank::new(rank)))
 }
 
-/// The process of that namespace, whose name was judged, and that rank.
+/// Returns the process of that namespace, whose name was judged, and that rank.
 fn proc_named(alloc: Global, nspace: &[u8], rank: u32) -> Result<Proc, AllocError>
     requires { IsTrue (is_nspace nspace.now) }
     ensures { IfOk result (λ p. p ≡ record { nspace = nspace.now; rank = rank }) }
@@ -88,21 +89,21 @@ fn proc_named(alloc: Global, nspace: &[u8], rank: u32) -> Result<Proc, AllocErro
     Ok(Proc::new(nspace, Rank::new(rank)))
 }
 
-/// The key of these bytes.
+/// Returns the key of these bytes. Errors: `BadParam` if they are no key; `NoMemory`.
 pub(crate) fn key_said(alloc: Global, key: &[u8]) -> Result<Key, Refusal>
     ensures { ReadsArguments (λ k. k) result (key_said key.now) }
 {
     Key::read_any(alloc, key)
 }
 
-/// The value of these canonical bytes.
+/// Returns the value of these canonical bytes. Errors: `BadFrame` at the first fault; `NoMemory`.
 fn value_said(alloc: Global, bytes: &[u8]) -> Result<Value, Refusal>
     ensures { ReadsArguments spelling result (value_said bytes.now) }
 {
     value_from_bytes(alloc, bytes)
 }
 
-/// The scope of that number (PMIx Standard 5.0, pmix_scope_t).
+/// Returns the scope of that number (PMIx Standard 5.0, pmix_scope_t).
 fn scope_said(number: u32) -> Result<Scope, Refusal>
     ensures { result ≡ scope_said number }
 {
@@ -116,7 +117,7 @@ fn scope_said(number: u32) -> Result<Scope, Refusal>
     }
 }
 
-/// How a get of that number waits.
+/// Returns the mode of a get with that number.
 fn mode_said(number: u32) -> Result<Mode, Refusal>
     ensures { result ≡ mode_said number }
 {
@@ -128,8 +129,8 @@ fn mode_said(number: u32) -> Result<Mode, Refusal>
     }
 }
 
-/// A put: of the process, of that scope, of the value of these canonical bytes. Refused as BadParam where a name, the scope or the key is
-/// none, as BadFrame at the first fault of the value, and as NoMemory.
+/// Returns a put: of the process, with that scope, of the value of these canonical bytes. Errors: `BadParam` if a name, the scope or the
+/// key is invalid; `BadFrame` at the first fault of the value; `NoMemory`.
 #[tactic(auto, unfolding(crate::specs::Arguments::put_said))]
 pub(crate) fn put_said(
     alloc: Global,
@@ -151,7 +152,7 @@ pub(crate) fn put_said(
     Ok(ProcCall::Put(proc, scope, key, value))
 }
 
-/// A commit of the process.
+/// Returns a commit of the process.
 #[tactic(auto, unfolding(crate::specs::Arguments::commit_said))]
 pub(crate) fn commit_said(alloc: Global, nspace: &[u8], rank: u32) -> Result<ProcCall, Refusal>
     ensures { ReadsArguments proc_call_of result (commit_said nspace.now rank) }
@@ -159,7 +160,7 @@ pub(crate) fn commit_said(alloc: Global, nspace: &[u8], rank: u32) -> Result<Pro
     Ok(ProcCall::Commit(proc_said(alloc, nspace, rank)?))
 }
 
-/// The process enters a fence of these processes; whether it collects data.
+/// Returns the entry of the process into a fence of these processes. The flag says whether it collects data.
 #[tactic(auto, unfolding(crate::specs::Arguments::enter_said))]
 pub(crate) fn enter_said(
     alloc: Global,
@@ -175,7 +176,7 @@ pub(crate) fn enter_said(
     Ok(ProcCall::Request(Request::Enter(proc, list, collect)))
 }
 
-/// The process leaves the fence that it is released from.
+/// Returns the leave of the process from the fence that it is released from.
 #[tactic(auto, unfolding(crate::specs::Arguments::leave_said))]
 pub(crate) fn leave_said(alloc: Global, nspace: &[u8], rank: u32) -> Result<ProcCall, Refusal>
     ensures { ReadsArguments proc_call_of result (leave_said nspace.now rank) }
@@ -183,7 +184,7 @@ pub(crate) fn leave_said(alloc: Global, nspace: &[u8], rank: u32) -> Result<Proc
     Ok(ProcCall::Request(Request::Leave(proc_said(alloc, nspace, rank)?)))
 }
 
-/// The process gets a key of the target. Refused as BadParam where a name, the key or the mode is none, and as NoMemory.
+/// Returns the get of a key of the target by the process. Errors: `BadParam` if a name, the key or the mode is invalid; `NoMemory`.
 #[tactic(auto, unfolding(crate::specs::Arguments::get_said))]
 pub(crate) fn get_said(
     alloc: Global,
@@ -206,7 +207,7 @@ pub(crate) fn get_said(
     Ok(ProcCall::Request(Request::Ask(mode, proc, target, key)))
 }
 
-/// The process takes the answer of the get that it waited for.
+/// Returns the take of the answer to the get for which the process waited.
 #[tactic(auto, unfolding(crate::specs::Arguments::take_said))]
 pub(crate) fn take_said(alloc: Global, nspace: &[u8], rank: u32) -> Result<ProcCall, Refusal>
     ensures { ReadsArguments proc_call_of result (take_said nspace.now rank) }
@@ -214,7 +215,7 @@ pub(crate) fn take_said(alloc: Global, nspace: &[u8], rank: u32) -> Result<ProcC
     Ok(ProcCall::Request(Request::Take(proc_said(alloc, nspace, rank)?)))
 }
 
-/// The process ends.
+/// Returns the end of the process.
 #[tactic(auto, unfolding(crate::specs::Arguments::end_said))]
 pub(crate) fn end_said(alloc: Global, nspace: &[u8], rank: u32) -> Result<ProcCall, Refusal>
     ensures { ReadsArguments proc_call_of result (end_said nspace.now rank) }
@@ -222,7 +223,7 @@ pub(crate) fn end_said(alloc: Global, nspace: &[u8], rank: u32) -> Result<ProcCa
     Ok(ProcCall::Request(Request::Terminate(proc_said(alloc, nspace, rank)?)))
 }
 
-/// A set of these processes is defined under the name.
+/// Returns the definition of a set of these processes under the name.
 #[tactic(auto, unfolding(crate::specs::Arguments::define_said))]
 pub(crate) fn define_said(alloc: Global, name: &[u8], list: &Vec<Proc>) -> Result<ProcCall, Refusal>
     ensures { ReadsArguments proc_call_of result (define_said name.now list.now.items) }
@@ -232,7 +233,7 @@ pub(crate) fn define_said(alloc: Global, name: &[u8], list: &Vec<Proc>) -> Resul
     Ok(ProcCall::Request(Request::Define(name, list)))
 }
 
-/// The set of that name is deleted.
+/// Returns the deletion of the set of that name.
 #[tactic(auto, unfolding(crate::specs::Arguments::delete_said))]
 pub(crate) fn delete_said(alloc: Global, name: &[u8]) -> Result<ProcCall, Refusal>
     ensures { ReadsArguments proc_call_of result (delete_said name.now) }

@@ -27,7 +27,7 @@ use pmg_node::Request;
 use pmg_value::Refusal;
 
 impl Daemon {
-    /// Tells the number of the reply to a call with this code.
+    /// Sets the number to the number of the reply to a call with this code.
     fn tell(&self, code: u32, number: &mut u64)
         ensures { TellsNumber self.now code number.old number.new }
     {
@@ -36,7 +36,7 @@ impl Daemon {
         }
     }
 
-    /// Makes the call, and tells the number of its reply.
+    /// Makes the call, and sets the number of its reply.
     fn call_for_number(&mut self, call: Result<ProcCall, Refusal>, number: &mut u64) -> u32
         ensures makes { (due : Result CallModel RefusalOf) → ReadsArguments proc_call_of call due
             → Makes due self.old result self.new }
@@ -48,7 +48,7 @@ impl Daemon {
         code
     }
 
-    /// The list of processes was taken by a call with this code.
+    /// Clears the list of processes after a call with this code, unless the code is NoMemory.
     fn take_list(&mut self, code: u32)
         ensures list { TakesList self.old code self.new }
         ensures link { self.new.link ≡ self.old.link }
@@ -60,8 +60,9 @@ impl Daemon {
         }
     }
 
-    /// The process puts the value of these canonical bytes under the key, with the scope of that number (PMIx Standard 5.0, PMIx_Put). Refused
-    /// as BadParam where a name, the scope or the key is none, as BadFrame where the bytes are no value, as `Link::put` is, and as NoMemory.
+    /// Puts the value of these canonical bytes under the key, for the process, with the scope of that number (PMIx Standard 5.0,
+    /// PMIx_Put). Errors: `BadParam` if a name, the scope or the key is invalid; `BadFrame` if the bytes are no value; the errors of
+    /// `Link::put`; `NoMemory`.
     pub fn put(&mut self, nspace: &[u8], rank: u32, scope: u32, key: &[u8], value: &[u8]) -> u32
         ensures makes { Makes (put_said nspace.now rank scope key.now value.now) self.old result self.new }
         ensures list { self.new.list ≡ self.old.list }
@@ -69,8 +70,8 @@ impl Daemon {
         self.call(put_said(self.alloc, nspace, rank, scope, key, value))
     }
 
-    /// The process commits what it put: the number is the commit's (PMIx Standard 5.0, PMIx_Commit). Refused as BadParam where the name is none,
-    /// as `Link::commit` is, and as NoMemory.
+    /// Commits the puts of the process; the number is the commit's (PMIx Standard 5.0, PMIx_Commit). Errors: `BadParam` if the name is
+    /// invalid; the errors of `Link::commit`; `NoMemory`.
     pub fn commit(&mut self, nspace: &[u8], rank: u32, number: &mut u64) -> u32
         ensures makes { Makes (commit_said nspace.now rank) self.old result self.new }
         ensures number { TellsNumber self.new result number.old number.new }
@@ -79,9 +80,9 @@ impl Daemon {
         self.call_for_number(commit_said(self.alloc, nspace, rank), number)
     }
 
-    /// The process enters its next fence of the processes that were named, or where none was of its whole namespace: the number is the
-    /// instance (PMIx Standard 5.0, PMIx_Fence). Refused as BadParam where the name is none, as the node refuses the entry, and as NoMemory. But
-    /// for NoMemory the processes are named no more.
+    /// Enters the process into its next fence of the named processes, or, if the list is empty, of its whole namespace; the number is the
+    /// instance (PMIx Standard 5.0, PMIx_Fence). Except after `NoMemory`, the list of named processes is empty then. Errors: `BadParam` if
+    /// the name is invalid; the node's refusals of the entry; `NoMemory`.
     pub fn enter(&mut self, nspace: &[u8], rank: u32, collect: bool, number: &mut u64) -> u32
         ensures makes { Makes (enter_said nspace.now rank self.old.list.items collect) self.old result self.new }
         ensures number { TellsNumber self.new result number.old number.new }
@@ -94,8 +95,9 @@ impl Daemon {
         code
     }
 
-    /// The process leaves the fence that it is released from: the number is the instance, and `gone` tells who was gone. It waits where it is not
-    /// released yet. Refused as BadParam where the name is none, as the node refuses who calls, and as NoMemory.
+    /// Takes the process out of the fence that it is released from; the number is the instance, and `gone` gives the participants that
+    /// were gone. It waits if it is not released yet. Errors: `BadParam` if the name is invalid; the node's refusals of the caller;
+    /// `NoMemory`.
     pub fn leave(&mut self, nspace: &[u8], rank: u32, number: &mut u64) -> u32
         ensures makes { Makes (leave_said nspace.now rank) self.old result self.new }
         ensures number { TellsNumber self.new result number.old number.new }
@@ -104,9 +106,9 @@ impl Daemon {
         self.call_for_number(leave_said(self.alloc, nspace, rank), number)
     }
 
-    /// The process gets a key of the target (PMIx Standard 5.0, PMIx_Get): `value` tells the value; or it waits. Mode 0 waits, 1 looks only at
-    /// what the node holds (PMIX_IMMEDIATE), 2 asks the target's node anew (PMIX_GET_REFRESH_CACHE). Refused as BadParam where a name, the key or
-    /// the mode is none, as NotFound and OutsideScope, as the node refuses the get, and as NoMemory.
+    /// Gets a key of the target for the process (PMIx Standard 5.0, PMIx_Get): `value` gives the value; or the process waits. Mode 0
+    /// waits, 1 looks only at the data of the node (PMIX_IMMEDIATE), 2 asks the target's node anew (PMIX_GET_REFRESH_CACHE). Errors:
+    /// `BadParam` if a name, the key or the mode is invalid; `NotFound`; `OutsideScope`; the node's refusals of the get; `NoMemory`.
     pub fn get(
         &mut self,
         nspace: &[u8],
@@ -122,8 +124,8 @@ impl Daemon {
         self.call(get_said(self.alloc, nspace, rank, target, target_rank, key, mode))
     }
 
-    /// The process takes the answer of the get that it waited for: `value` tells the value. It waits where there is no answer yet. Refused as
-    /// BadParam where the name is none, as NotFound and OutsideScope where that is the answer, as the node refuses who calls, and as NoMemory.
+    /// Takes the answer to the get for which the process waited: `value` gives the value. It waits if there is no answer yet. Errors:
+    /// `BadParam` if the name is invalid; `NotFound` and `OutsideScope` as the answer; the node's refusals of the caller; `NoMemory`.
     pub fn take(&mut self, nspace: &[u8], rank: u32) -> u32
         ensures makes { Makes (take_said nspace.now rank) self.old result self.new }
         ensures list { self.new.list ≡ self.old.list }
@@ -131,8 +133,8 @@ impl Daemon {
         self.call(take_said(self.alloc, nspace, rank))
     }
 
-    /// The process ends: the number is that of its last commit (PMIx Standard 5.0, PMIx_Finalize). Refused as BadParam where the name is none, as
-    /// the node refuses who calls, and as NoMemory.
+    /// Ends the process; the number is its last commit's (PMIx Standard 5.0, PMIx_Finalize). Errors: `BadParam` if the name is invalid;
+    /// the node's refusals of the caller; `NoMemory`.
     pub fn end(&mut self, nspace: &[u8], rank: u32, number: &mut u64) -> u32
         ensures makes { Makes (end_said nspace.now rank) self.old result self.new }
         ensures number { TellsNumber self.new result number.old number.new }
@@ -141,8 +143,9 @@ impl Daemon {
         self.call_for_number(end_said(self.alloc, nspace, rank), number)
     }
 
-    /// A set of the processes that were named is defined, at node 0: the number is that of the change of the sets. Refused as BadParam where the
-    /// name is none, as the node refuses the definition, and as NoMemory. But for NoMemory the processes are named no more.
+    /// Defines a set of the named processes, at node 0; the number is the number of the change of the sets. Except after `NoMemory`, the
+    /// list of named processes is empty then. Errors: `BadParam` if the name is invalid; the node's refusals of the definition;
+    /// `NoMemory`.
     pub fn define(&mut self, name: &[u8], number: &mut u64) -> u32
         ensures makes { Makes (define_said name.now self.old.list.items) self.old result self.new }
         ensures number { TellsNumber self.new result number.old number.new }
@@ -155,8 +158,8 @@ impl Daemon {
         code
     }
 
-    /// The set of that name is deleted, at node 0: the number is that of the change of the sets. Refused as BadParam where the name is none, as the
-    /// node refuses the deletion, and as NoMemory.
+    /// Deletes the set of that name, at node 0; the number is the number of the change of the sets. Errors: `BadParam` if the name is
+    /// invalid; the node's refusals of the deletion; `NoMemory`.
     pub fn delete(&mut self, name: &[u8], number: &mut u64) -> u32
         ensures makes { Makes (delete_said name.now) self.old result self.new }
         ensures number { TellsNumber self.new result number.old number.new }
@@ -165,7 +168,7 @@ impl Daemon {
         self.call_for_number(delete_said(self.alloc, name), number)
     }
 
-    /// Other nodes are asked again for what is missing. Refused as NoMemory alone.
+    /// Asks other nodes again for missing data. Errors: only `NoMemory`.
     pub fn nudge(&mut self) -> u32
         ensures makes { Makes nudge_said self.old result self.new }
         ensures list { self.new.list ≡ self.old.list }

@@ -1,4 +1,4 @@
-//! The codes that calls answer: 0 to 15 where they are answered, 16 and a refusal's number where they are refused.
+//! The codes that calls return: 0 to 15 for an answer, 16 plus the refusal's number for a refusal.
 ghost use Rattle.std.specs.Prelude.{◌≡◌, ◌+◌};
 ghost use Rattle.pmg_value.specs.Refusals.{number_of};
 ghost use Rattle.pmg_node.specs.Acting.{reply_as};
@@ -17,7 +17,7 @@ pub const DONE: u32 = 0;
 /// It waits.
 pub const WAITS: u32 = 1;
 
-/// Nothing is there to be done, or to be told.
+/// There is nothing to do, or to return.
 pub const IDLE: u32 = 2;
 
 /// The frame does not concern the node.
@@ -35,14 +35,14 @@ pub const TOO_SMALL: u32 = 254;
 /// The handle holds no node.
 pub const WRONG_HANDLE: u32 = 255;
 
-/// The code of a refusal.
+/// Returns the code of a refusal.
 pub fn refusal_code(refusal: &Refusal) -> u32
     ensures { result ≡ REFUSED + number_of refusal.now }
 {
     REFUSED + refusal.number() as u32
 }
 
-/// The code of a reply that refuses nothing.
+/// Returns the code of a reply that refuses nothing.
 #[tactic(auto, unfolding(crate::specs::Codes::reply_code))]
 pub(crate) fn answered_code(reply: &Reply) -> u32
     ensures { result ≡ reply_code (reply_as reply.now) }
@@ -62,7 +62,7 @@ pub(crate) fn answered_code(reply: &Reply) -> u32
     }
 }
 
-/// The code of an answer.
+/// Returns the code of an answer.
 #[tactic(auto, unfolding(crate::specs::Codes::reply_code))]
 pub(crate) fn answer_code(answer: &Result<Reply, Refusal>) -> u32
     ensures { result ≡ reply_code (reply_in reply_as answer.now) }
@@ -73,7 +73,7 @@ pub(crate) fn answer_code(answer: &Result<Reply, Refusal>) -> u32
     }
 }
 
-/// The number that the reply tells, or the old one.
+/// Returns the number in the reply, or the old one.
 #[tactic(auto, unfolding(crate::specs::Codes::number_or))]
 pub(crate) fn number_or(old: u64, reply: &Reply) -> u64
     ensures { result ≡ number_or old (reply_as reply.now) }
@@ -94,7 +94,7 @@ pub(crate) fn number_or(old: u64, reply: &Reply) -> u64
     }
 }
 
-/// The number of how a process stands.
+/// Returns the number of a process's status.
 pub(crate) fn status_number(status: Status) -> u32
     ensures { result ≡ status_number (status_in status) }
 {
@@ -109,7 +109,8 @@ pub(crate) fn status_number(status: Status) -> u32
     }
 }
 
-/// The refusal of that code, if it is one's; of bytes that are no frame, one at their start.
+/// Returns the refusal of that code, if the code belongs to a refusal. The refusal of bytes that are no frame has its fault at their
+/// start.
 fn refusal_coded(code: u32) -> Option<Refusal>
     ensures { result ≡ refusal_coded code }
 {
@@ -134,7 +135,7 @@ fn refusal_coded(code: u32) -> Option<Refusal>
     }
 }
 
-/// The name of the refusal of that code goes into the buffer, as "NotFound". Idle where the code is none of a refusal's.
+/// Writes the name of the refusal of that code into the buffer, as "NotFound". Idle if the code belongs to no refusal.
 pub fn refusal_text(code: u32, buffer: &mut [u8], len: &mut usize) -> u32
     ensures { FillsIfTold (refusal_named code) buffer.old len.old result buffer.new len.new }
 {

@@ -1,4 +1,4 @@
-//! A node with all that the program of a daemon needs of it.
+//! A node with all data that the program of a daemon needs.
 ghost use Rattle.std.specs.Prelude.{◌≡◌, ◌≢◌, [], ◌∷◌, ◌++◌, length, true, Result, IfErr, IfOk, OnErr};
 ghost use Rattle.pmg_value.specs.Lists.{Each};
 ghost use Rattle.pmg_value.specs.declared.refusal.Refusal.{Refusal as RefusalOf};
@@ -23,8 +23,8 @@ use pmg_node::{Reply, Server};
 use pmg_value::{NodeId, Proc, Refusal};
 use std::alloc::{AllocError, Global};
 
-/// A node with what its clients put, its frames that wait, what came from each other node, the processes that were named for the next
-/// call, and what the last call that was answered replied.
+/// A node with the puts of its clients, its waiting frames, and the inbox of each other node. It also has the processes that are named for
+/// the next call, and the reply of the last answered call.
 pub struct Daemon {
     pub(crate) alloc: Global,
     pub(crate) link: Link,
@@ -45,7 +45,7 @@ impl Drop for Daemon {
     }
 }
 
-/// An empty inbox for each of so many nodes.
+/// Makes an empty inbox for each of so many nodes.
 fn new_inboxes(alloc: Global, count: usize) -> Result<Vec<Inbox>, AllocError>
     ensures count { IfOk result (λ inboxes. length inboxes.items ≡ count) }
     ensures empty { IfOk result (λ inboxes. Each IsNewInbox inboxes.items) }
@@ -58,7 +58,7 @@ fn new_inboxes(alloc: Global, count: usize) -> Result<Vec<Inbox>, AllocError>
 }
 
 impl Daemon {
-    /// A new node of the group, of that index.
+    /// Makes a new node of the group, of that index.
     pub fn new(alloc: Global, id: NodeId, registry: Registry) -> Result<Daemon, AllocError>
         requires { is_node registry id ≡ true }
         ensures link { IfOk result (λ d. d.link ≡ new_link (new_server registry id)) }
@@ -77,8 +77,8 @@ impl Daemon {
         })
     }
 
-    /// A new node, of that index, of the group that a text describes (the first lines of a script describe the same). Refused as
-    /// `read_group` refuses the text, as BadParam where the group has no node of that index, and as NoMemory.
+    /// Opens a new node, of that index, of the group that a text describes, as the first lines of a script do. Errors: the refusals of the
+    /// text by `read_group`; `BadParam` if the group has no node of that index; `NoMemory`.
     pub fn open(alloc: Global, id: u32, group: &[u8]) -> Result<Daemon, Refusal>
         ensures opened { IfOk result (λ d. OpensNode id group.now d) }
         ensures refused { IfErr result (λ e. RefusesToOpen id group.now e) }
@@ -90,7 +90,7 @@ impl Daemon {
         Ok(Daemon::new(alloc, NodeId::from_checked(id), registry)?)
     }
 
-    /// Makes the call that its arguments say.
+    /// Makes the call of its arguments.
     fn answer(&mut self, call: Result<ProcCall, Refusal>) -> Result<Reply, Refusal>
         ensures made { (due : Result CallModel RefusalOf) → ReadsArguments proc_call_of call due
             → Made due self.old.link result self.new.link }
@@ -104,7 +104,7 @@ impl Daemon {
         }
     }
 
-    /// Keeps the reply, and answers the code of what was answered.
+    /// Keeps the reply, and returns the code of the answer.
     fn keep(&mut self, answer: Result<Reply, Refusal>) -> u32
         ensures code { result ≡ reply_code (reply_in reply_as answer) }
         ensures ok { IfOk answer (λ r. self.new.reply ≡ r) }
@@ -120,7 +120,7 @@ impl Daemon {
         code
     }
 
-    /// Makes the call that its arguments say, and answers its code; where it is answered, the reply is kept.
+    /// Makes the call of its arguments, and returns its code. If the call is answered, its reply is kept.
     pub(crate) fn call(&mut self, call: Result<ProcCall, Refusal>) -> u32
         ensures makes { (due : Result CallModel RefusalOf) → ReadsArguments proc_call_of call due → Makes due self.old result self.new }
         ensures list { self.new.list ≡ self.old.list }
@@ -129,7 +129,7 @@ impl Daemon {
         self.keep(answer)
     }
 
-    /// Names a process for the next fence that is entered or set that is defined, after those that were named.
+    /// Names a process, after the earlier ones, for the next entry of a fence or the next definition of a set.
     pub fn name(&mut self, nspace: &[u8], rank: u32) -> u32
         ensures { Names self.old nspace.now rank result self.new }
     {

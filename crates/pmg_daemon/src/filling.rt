@@ -1,4 +1,4 @@
-//! Bytes that go into a buffer of the caller's.
+//! The copy of bytes into a buffer of the caller.
 ghost use Rattle.std.specs.Prelude.{◌≡◌, Some};
 ghost use Rattle.pmg_value.specs.Spelling.{spelling};
 ghost use Rattle.pmg_daemon.specs.Codes.{Fills};
@@ -9,8 +9,8 @@ use pmg_value::Value;
 use pmg_wire::put_value;
 use std::alloc::Global;
 
-/// Copies the bytes to the front of the buffer, and tells their length. Where the buffer is too small for them it stays as it was, and the
-/// length tells what is needed.
+/// Copies the bytes to the front of the buffer, and sets their length. If the buffer is too small for them, it stays unchanged, and the
+/// length is the needed one.
 pub(crate) fn fill(bytes: &[u8], buffer: &mut [u8], len: &mut usize) -> u32
     ensures { Fills bytes.now buffer.old len.old result buffer.new len.new }
 {
@@ -22,7 +22,7 @@ pub(crate) fn fill(bytes: &[u8], buffer: &mut [u8], len: &mut usize) -> u32
     DONE
 }
 
-/// Copies the value's canonical bytes so.
+/// Copies the value's canonical bytes into the buffer, as `fill` does.
 pub(crate) fn fill_value(alloc: Global, value: &Value, buffer: &mut [u8], len: &mut usize) -> u32
     ensures { Fills (spelling value.now) buffer.old len.old result buffer.new len.new }
 {

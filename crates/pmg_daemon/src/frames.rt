@@ -8,7 +8,7 @@ use crate::filling::fill;
 use pmg_node::Reply;
 use pmg_value::Refusal;
 
-/// The code of what a call that tells nothing answers.
+/// Returns the code of a call without a result.
 fn done_code(answer: Result<(), Refusal>) -> u32
     ensures { result ≡ done_code answer }
 {
@@ -18,7 +18,7 @@ fn done_code(answer: Result<(), Refusal>) -> u32
     }
 }
 
-/// The code of what came of the next frame, if one waited.
+/// Returns the code of the delivery of the next frame, if one waited.
 fn delivered_code(reply: &Option<Reply>) -> u32
     ensures { result ≡ delivered_code reply.now }
 {
@@ -28,7 +28,7 @@ fn delivered_code(reply: &Option<Reply>) -> u32
     }
 }
 
-/// The code of a call about a node that there is not.
+/// Returns the code of a call about a missing node.
 fn no_node_code() -> u32
     ensures { result ≡ no_node_code }
 {
@@ -36,9 +36,9 @@ fn no_node_code() -> u32
 }
 
 impl Daemon {
-    /// Takes the next bytes of the node of that index, in whatever pieces they come (`Inbox::feed`). Refused as BadParam where there is
-    /// no such node, as Closed after a fault, as Busy where frames that came before wait still, as TooMany where an offset would pass
-    /// 18446744073709551615, and as NoMemory; a refusal changes nothing.
+    /// Takes the next bytes of the node of that index, in any pieces (`Inbox::feed`). A refusal changes nothing. Errors: `BadParam` if
+    /// there is no such node; `Closed` after a fault; `Busy` if earlier frames still wait; `TooMany` if an offset would pass
+    /// 18446744073709551615; `NoMemory`.
     pub fn feed(&mut self, from: u32, bytes: &[u8]) -> u32
         ensures { FeedsFrom (slice_get self.old.inboxes.items from) self.old from bytes.now result self.new }
     {
@@ -48,8 +48,8 @@ impl Daemon {
         }
     }
 
-    /// Delivers the frame that came first of those of the node of that index that wait: done where it is taken, or ignored; idle where
-    /// none waits. Refused as BadParam where there is no such node, and as NoMemory, which changes nothing.
+    /// Delivers the first waiting frame from the node of that index: done if it is taken, or ignored; idle if no frame waits. Errors:
+    /// `BadParam` if there is no such node; `NoMemory`, which changes nothing.
     pub fn deliver(&mut self, from: u32) -> u32
         ensures { DeliversFrom (slice_get self.old.inboxes.items from) self.old from result self.new }
     {
@@ -62,8 +62,8 @@ impl Daemon {
         }
     }
 
-    /// Takes the frame that was sent first of those that wait: its bytes go into the buffer, and beside stands the node that it is for.
-    /// Idle where none waits. Where the buffer is too small, or an allocation fails, the frame goes on waiting.
+    /// Takes the first waiting frame: it writes the frame's bytes into the buffer, and sets the receiver's index. Idle if no frame waits.
+    /// If the buffer is too small, or an allocation fails, the frame continues to wait.
     pub fn next(&mut self, to: &mut u32, buffer: &mut [u8], len: &mut usize) -> u32
         ensures { TakesNext (slice_get self.old.link.waiting 0) self.old to.old buffer.old len.old result self.new to.new buffer.new len.new }
     {
@@ -82,8 +82,8 @@ impl Daemon {
         code
     }
 
-    /// The fault in the bytes of the node of that index: its offset, and its cause's name. Idle where they have none. Refused as BadParam
-    /// where there is no such node.
+    /// Returns the fault in the bytes of the node of that index: its offset, and its cause's name. Idle if they have no fault. Errors:
+    /// `BadParam` if there is no such node.
     pub fn fault(&self, from: u32, offset: &mut u64, buffer: &mut [u8], len: &mut usize) -> u32
         ensures { TellsFaultFrom (slice_get self.now.inboxes.items from) offset.old buffer.old len.old result offset.new buffer.new len.new }
     {

@@ -1,4 +1,4 @@
-//! A node as the program of a daemon holds it: calls of bytes and numbers, each answered by a code.
+//! A node in the program of a daemon: calls with bytes and numbers, each answered by a code.
 #![tactic(auto)]
 
 mod call;

@@ -1,4 +1,4 @@
-//! What a daemon is told beside codes and numbers: values, processes, sets, and how a process stands.
+//! The results of a daemon's calls beside codes and numbers: values, processes, sets, and the status of a process.
 ghost use Rattle.std.specs.Prelude.{◌≡◌};
 ghost use Rattle.pmg_node.specs.Acting.{reply_as};
 ghost use Rattle.pmg_daemon.specs.Codes.{Fills};
@@ -11,7 +11,7 @@ use crate::filling::{fill, fill_value};
 use pmg_node::Reply;
 use pmg_value::{Proc, Value};
 
-/// The process's namespace goes into the buffer, and its rank beside.
+/// Writes the process's namespace into the buffer, and sets its rank.
 fn fill_proc(proc: &Proc, buffer: &mut [u8], len: &mut usize, rank: &mut u32) -> u32
     ensures name { Fills proc.now.nspace buffer.old len.old result buffer.new len.new }
     ensures rank { rank.new ≡ proc.now.rank }
@@ -21,7 +21,7 @@ fn fill_proc(proc: &Proc, buffer: &mut [u8], len: &mut usize, rank: &mut u32) ->
 }
 
 impl Daemon {
-    /// The value that the last reply told: its canonical bytes go into the buffer. Idle where it told none.
+    /// Writes the canonical bytes of the last reply's value into the buffer. Idle if the reply has no value.
     pub fn value(&self, buffer: &mut [u8], len: &mut usize) -> u32
         ensures { FillsIfTold (value_told (reply_as self.now.reply)) buffer.old len.old result buffer.new len.new }
     {
@@ -31,8 +31,8 @@ impl Daemon {
         }
     }
 
-    /// The participant of that index, from 0, of those that were gone from the fence of which the last reply told. Idle where there is
-    /// none.
+    /// Returns the participant of that index, from 0, among those that were gone from the fence of the last reply. Idle if there is no
+    /// such participant.
     pub fn gone(&self, index: usize, buffer: &mut [u8], len: &mut usize, rank: &mut u32) -> u32
         ensures { TellsProc (gone_at (reply_as self.now.reply) index) buffer.old len.old rank.old result buffer.new len.new rank.new }
     {
@@ -45,8 +45,9 @@ impl Daemon {
         }
     }
 
-    /// The members of the process set of that name, as the node knows it: the canonical bytes of their array go into the buffer (PMIx
-    /// Standard 5.0, PMIX_QUERY_PSET_MEMBERSHIP). Refused as BadParam where the name is no key, as `Node::set_members` is, and as NoMemory.
+    /// Writes the canonical bytes of an array into the buffer: the members of the process set of that name, as the node knows it (PMIx
+    /// Standard 5.0, PMIX_QUERY_PSET_MEMBERSHIP). Errors: `BadParam` if the name is no key; the errors of `Server::set_members`;
+    /// `NoMemory`.
     pub fn members(&self, name: &[u8], buffer: &mut [u8], len: &mut usize) -> u32
         ensures { TellsMembers (members_said self.now.link name.now) buffer.old len.old result buffer.new len.new }
     {
@@ -64,8 +65,9 @@ impl Daemon {
         }
     }
 
-    /// How the process stands at the node, by number: 0 where it is none of its own, 1 in no call, 2 in a fence, 3 released from one, 4
-    /// where its get waits, 5 where that is answered, 6 where it has ended. Refused as BadParam where the name is none, and as NoMemory.
+    /// Returns the status of the process at the node, by number. It is 0 if the process is not at home there, 1 in no call, 2 in a fence,
+    /// and 3 if released from one. It is 4 if its get waits, 5 if its get is answered, and 6 if it has ended. Errors: `BadParam` if the
+    /// name is invalid; `NoMemory`.
     pub fn status(&self, nspace: &[u8], rank: u32, status: &mut u32) -> u32
         ensures { TellsStatus (status_said self.now.link nspace.now rank) status.old result status.new }
     {

@@ -6,7 +6,7 @@ use Rattle.pmg_publish.specs.Publications.{far_of, near_of}
 use Rattle.pmg_journal.specs.Replays.{Happening, after_all}
 use Rattle.pmg_desk.specs.Publishing.{published_over}
 
--- whatever happens at a node, what it published makes its two stores
+-- for all events at a node, its publications make its two stores
 abbrev pub PublishesWhatIsHeld : Type 0
 PublishesWhatIsHeld =
     (jobs : Jobs) (id : ℕ) (es : List Happening)

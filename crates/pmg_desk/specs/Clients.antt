@@ -1,4 +1,4 @@
--- Clients as contracts see them.
+-- The meaning of clients in contracts.
 use Rattle.std.specs.Prelude.{◌≡◌, ◌⊎◌, ℕ, Bool, false, List, Some, Result, Ok, Err, refl}
 use Rattle.std.specs.Coded.{Coded, code_by, coded×, coded_ℕ}
 use mathlib.Core.List.{IsPrefix}
@@ -22,8 +22,8 @@ use Rattle.pmg_desk.specs.Telling.{IsKnown, WasReadyAt, call_at, fence_of_call}
 use Rattle.pmg_journal.specs.Transcripts.{Calling, Noted, NotesCall, cached_after, noted_in, waits_after}
 use Rattle.pmg_journal.specs.declared.transcript.Transcript.{Transcript}
 
--- A client: the group and the index of its node, what its viewer knows of what is published there, what it knows of the journal of the
--- node, and what it called.
+-- A client: the group and the index of its node, its viewer's knowledge of the node's publications, its knowledge of the node's journal,
+-- and its calls.
 pub record Client : Type 0 where
   pub jobs : Jobs
   pub node : ℕ
@@ -31,7 +31,7 @@ pub record Client : Type 0 where
   pub known : Entries Event
   pub transcript : Transcript
 
--- a client as a tuple, by the codes of what a viewer knows, of what is known of a journal, and of a transcript
+-- a client as a tuple, by the codes of its viewer's knowledge, of its knowledge of the journal, and of its transcript
 abbrev pub coded_client : Coded Publications → Coded (Entries Event) → Coded Transcript → Coded Client
 coded_client viewer known transcript =
     code_by (Jobs × (ℕ × (Publications × (Entries Event × Transcript)))) (coded× coded_jobs (coded× coded_ℕ (coded× viewer (coded× known transcript))))
@@ -42,11 +42,11 @@ coded_client viewer known transcript =
 abbrev pub proc_of : Client → Proc
 proc_of c = c.transcript.proc
 
--- what it put
+-- its puts
 abbrev pub puts_of : Client → Cached
 puts_of c = cached_after no_puts (noted_in c.transcript)
 
--- what no commit of it sealed
+-- its puts that no commit sealed
 abbrev pub batch_of : Client → Unsealed
 batch_of c = unsealed_of (puts_of c)
 
@@ -54,11 +54,11 @@ batch_of c = unsealed_of (puts_of c)
 abbrev pub is_waiting : Client → Bool
 is_waiting c = waits_after false (noted_in c.transcript)
 
--- what it knows of the journal of its node
+-- its knowledge of the journal of its node
 abbrev pub journal_of : Client → List Happening
 journal_of c = happened_by c.known
 
--- the same client later: at its node, of its process; it knows all that it knew, of what is published and of the journal
+-- the client later: at its node, of its process; it keeps all its knowledge of the publications and of the journal
 pub record IsLater (c d : Client) : Type 0 where
   pub jobs : d.jobs ≡ c.jobs
   pub node : d.node ≡ c.node
@@ -71,25 +71,25 @@ pub record IsLater (c d : Client) : Type 0 where
 abbrev pub ClientNotes : Client → Client → Calling → {X : Type 0} → (X → Reply) → Result X Refusal → Type 0
 ClientNotes c d call view answer = NotesCall (noted_in c.transcript) (noted_in d.transcript) call view answer
 
--- after the entry of a fence, which was answered so: its leave is noted where it was entered, else nothing more
+-- after the entry of a fence with this answer: its leave is noted if the fence was entered, else nothing more
 abbrev pub NotesLeave : List Noted → List Noted → Calling → Result ℕ Refusal → Result Release Refusal → Type 0
 NotesLeave old new leave (Ok instance) result = NotesCall old new leave release_reply result
 NotesLeave old new leave (Err e) result = (result ≡ Err e) × (new ≡ old)
 
--- A fence stands in the transcript as its entry and its leave.
+-- A fence is in the transcript as its entry and its leave.
 abbrev pub NotesFence : Client → Client → List Proc → Bool → Result Release Refusal → Type 0
 NotesFence c d list collect result =
     (mid : List Noted) × (entry : Result ℕ Refusal)
     × NotesCall (noted_in c.transcript) mid (Calling.request (Request.enter (proc_of c) list collect)) Reply.entered entry
     × NotesLeave mid (noted_in d.transcript) (Calling.request (Request.leave (proc_of c))) entry result
 
--- The client knows more of the journal of its node: what it knew before, then what others did, and then this act of its own with this
--- reply; and it knows the board that this journal publishes.
+-- The client knows more of the journal of its node: its earlier knowledge, then the acts of others, and then its own act with this reply.
+-- It also knows the board that this journal publishes.
 pub record Tells (c d : Client) (act : Act) (reply : Reply) : Type 0 where
   pub goes_on : GoesOnBy (proc_of c) (journal_of c) (journal_of d) (happening act reply)
   pub knows : IsKnown d.jobs d.node (journal_of d) d.viewer.log
 
--- at the end of what it knows of the journal the client's process is in the fence, or is released from it
+-- at the end of its knowledge of the journal, the client's process is in the fence, or is released from it
 abbrev pub IsInFence : Client → FenceName → Type 0
 IsInFence c f = fence_of_call (call_at c.jobs c.node (journal_of c) (proc_of c)) ≡ Some f
 
@@ -97,7 +97,7 @@ IsInFence c f = fence_of_call (call_at c.jobs c.node (journal_of c) (proc_of c))
 abbrev pub KnowsReady : Client → FenceName → List Proc → Type 0
 KnowsReady d f gone = WasReadyAt d.jobs d.node (proc_of d) f gone (journal_of d) d.viewer.log
 
--- who is released was so from the fence that it was in, of that instance
+-- a released client was released from the fence that it was in, of that instance
 abbrev pub ReleasedFrom : Client → Client → Release → Type 0
 ReleasedFrom c d (releases.Released instance gone) = (f : FenceName) × IsInFence c f × (f.instance ≡ instance) × KnowsReady d f gone.items
 ReleasedFrom c d releases.Idle = Unit {0}
@@ -107,13 +107,13 @@ ReleasedFrom c d releases.Waiting = Unit {0}
 abbrev pub listed_fence : Client → List Proc → Bool → ℕ → FenceName
 listed_fence c list collect instance = fence_of (signature_of c.jobs (proc_of c) list collect) instance
 
--- who is released was so from the fence of this list
+-- a released client was released from the fence of this list
 abbrev pub ReleasedFromOwn : Client → List Proc → Bool → Release → Type 0
 ReleasedFromOwn d list collect (releases.Released instance gone) = KnowsReady d (listed_fence d list collect instance) gone.items
 ReleasedFromOwn d list collect releases.Idle = Unit {0}
 ReleasedFromOwn d list collect releases.Waiting = Unit {0}
 
--- What a client that meets in a fence is told: of its entry, where that was refused; else of its entry, and then of its leave.
+-- The knowledge of a client that meets in a fence: it knows its entry, if the entry was refused; else its entry and then its leave.
 abbrev pub TellsFence : Client → Client → List Proc → Bool → Result Release Refusal → Type 0
 TellsFence c d list collect result =
     (Tells c d (Act.request (Request.enter (proc_of c) list collect)) (reply_in release_reply result))

@@ -1,8 +1,8 @@
--- Which replies an act may be given.
+-- The replies that an act may get.
 use Rattle.pmg_node_model.specs.Acts.{Act, Reply, Request}
 use Rattle.pmg_node.specs.Kinds.{IsAsked, IsCommitted, IsDefined, IsDelivery, IsDone, IsEnded, IsEntered, IsRelease}
 
--- What an act of this kind is told, where it is not refused. What a taking is told hangs on what was asked before it.
+-- The kind of reply to an act of this kind, if it is not refused. The reply to a taking depends on the question before it.
 abbrev pub Tell : Act → Reply → Type 0
 Tell (Act.request (Request.enter p list collect)) r = IsEntered r
 Tell (Act.request (Request.leave p)) r = IsRelease r
@@ -20,7 +20,7 @@ abbrev pub OrRefused : (Reply → Type 0) → Reply → Type 0
 OrRefused P (Reply.refused e) = Unit {0}
 OrRefused P r = P r
 
--- a refusal, or what an act of this kind is told otherwise
+-- a refusal, or a reply of the kind of this act
 abbrev pub IsKind : Act → Reply → Type 0
 IsKind a r = OrRefused (Tell a) r
 

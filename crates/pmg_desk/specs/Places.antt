@@ -1,11 +1,11 @@
--- Where a state lies.
+-- The place of a state.
 use Rattle.std.specs.Prelude.{◌≡◌, true, []}
 use Rattle.pmg_jobinfo.specs.Jobs.{is_node}
 use Rattle.pmg_desk.specs.declared.lock.Place.{Place}
 use Rattle.pmg_desk.specs.declared.state.Parts.{Parts}
 
--- the state is that of this desk: of its node, which is one of its group, with its list of events, of which nothing was known at the
--- start, and with its publisher
+-- The state belongs to this desk: to its node, which is in its group, to its list of events, which nobody knew at the start, and to its
+-- publisher.
 pub record LiesAt (p : Place) (s : Parts) : Type 0 where
   pub node : s.journal.node ≡ p.node
   pub registry : s.journal.registry ≡ p.registry

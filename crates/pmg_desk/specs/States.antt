@@ -1,4 +1,4 @@
--- What lies under the lock of a desk.
+-- The state under the lock of a desk.
 use Rattle.std.specs.Prelude.{◌≡◌, ℕ, ◌≤◌, true, List, [], ◌∷◌, ◌++◌, length, map, drop, All, Option, Some, None, IfSome, IsSome, Result}
 use mathlib.Core.List.{IsPrefix}
 use Rattle.pmg_value.specs.declared.refusal.Refusal.{Refusal}
@@ -18,15 +18,15 @@ use Rattle.pmg_journal.specs.Replays.{Happening, after_all, sent_over}
 use Rattle.pmg_journal.specs.declared.record.Step.{Step}
 use Rattle.pmg_desk.specs.Publishing.{published_by, published_over}
 
--- The node is the one that the replay leaves, and its outbox what the replay sent without the frames that were taken.
+-- The replay leads to the node, and the outbox holds the frames of the replay without the taken ones.
 pub record IsLive (start : Server) (es : List Happening) (taken : ℕ) (outbox : List Sent) (node : Server) : Type 0 where
   pub node_is : node ≡ after_all start es
   pub outbox_is : outbox ≡ drop taken (sent_over start es)
   pub bound : taken ≤ length (sent_over start es)
 
--- What is kept: the journal is a replay with these steps, what is published is what it published, and viewers read it. While there is a
--- node it is the replay's, the journal is the list that clients know prefixes of, the publisher is open, and no last node is kept. The
--- last node, if one is kept, is the replay's too.
+-- The invariant of the kept state. The journal is a replay with these steps, the publications are the replay's, and viewers read them.
+-- While there is a node, it is the replay's, the journal is the list whose prefixes clients know, the publisher is open, and no last node
+-- is kept. The last node, if one is kept, is also the replay's.
 pub record IsStateKept (p : Parts) : Type 0 where
   pub journal : IsJournal p.journal
   pub published : p.publisher.log ≡ published_over (start_of p.journal) (happened_in p.journal)
@@ -39,7 +39,7 @@ pub record IsStateKept (p : Parts) : Type 0 where
   pub last : IfSome p.last (λ s. s ≡ after_all (start_of p.journal) (happened_in p.journal))
   pub none_last : IsSome p.node → p.last ≡ None
 
--- the same desk: its node's index and group, the books of its journal and of its publisher, and the frames that were taken
+-- the desk is unchanged: its node's index and group, the books of its journal and of its publisher, and the number of taken frames
 pub record IsAt (p q : Parts) : Type 0 where
   pub node : q.journal.node ≡ p.journal.node
   pub registry : q.journal.registry ≡ p.journal.registry
@@ -54,12 +54,12 @@ pub record NothingHappened (p q : Parts) : Type 0 where
   pub outbox : q.outbox.items ≡ p.outbox.items
   pub publisher : q.publisher ≡ p.publisher
 
--- the act is answered so, and leads the node there
+-- the act has this answer, and leads the node there
 abbrev pub Steps : Server → Act → Result Reply Refusal → Option Server → Type 0
 Steps s a answer node = (reply_to s (act_of a) ≡ reply_in reply_as answer) × (node ≡ Some (after s (act_of a)))
 
--- Of an open desk: the act is answered so and leads the node there; the journal has it at its end, what is sent goes after the frames of
--- the outbox, and what is joined is published.
+-- A step of an open desk: the act has this answer and leads the node there. The journal has the act at its end, the sent frames follow the
+-- frames of the outbox, and the joined pieces are published.
 pub record MovesOn (s : Server) (a : Act) (answer : Result Reply Refusal) (es : List Happening) (out : List Sent) (log : List Publication)
     (node : Option Server) (es' : List Happening) (out' : List Sent) (log' : List Publication) : Type 0 where
   pub steps : Steps s a answer node
@@ -67,29 +67,29 @@ pub record MovesOn (s : Server) (a : Act) (answer : Result Reply Refusal) (es : 
   pub outbox : out' ≡ out ++ sent_by s (act_of a)
   pub published : log' ≡ log ++ published_by s (act_of a)
 
--- The same of a desk that may have no node: without one no act is done.
+-- Such a step of a desk that may have no node: without a node no act is done.
 abbrev pub StateGoesOn : Option Server → Act → Result Reply Refusal → List Happening → List Sent → List Publication → Option Server → List Happening → List Sent
     → List Publication → Type 0
 StateGoesOn None a answer es out log left es' out' log' = ⊥
 StateGoesOn (Some s) a answer es out log left es' out' log' = MovesOn s a answer es out log left es' out' log'
 
--- These frames were delivered, one after the other: the journal has them at its end.
+-- These frames were delivered, one after another: the journal has them at its end.
 pub record HaveCome (frames : List Frame) (es es' : List Happening) : Type 0 where
   pub more : List Happening
   pub events : es' ≡ es ++ more
   pub acts : map (λ (e : Happening). e.act) more ≡ map ModelAct.deliver frames
 
--- So were the first of them.
+-- The first of these frames were delivered.
 abbrev pub SomeHaveCome : List Frame → List Happening → List Happening → Type 0
 SomeHaveCome frames es es' = (come : List Frame) × IsPrefix come frames × HaveCome come es es'
 
--- Of an open desk: the steps have at their end what the node did by the act.
+-- A step of an open desk: the steps have at their end the node's step at the act.
 pub record MovesSteps (s : Server) (a : Act) (answer : Result Reply Refusal) (xs xs' : List Step) : Type 0 where
   pub step : Step
   pub is_step : IsStep s (happened a answer) step
   pub steps : xs' ≡ xs ++ step ∷ []
 
--- The same of a desk that may have no node.
+-- Such a step of a desk that may have no node.
 abbrev pub StepsGoOn : Option Server → Act → Result Reply Refusal → List Step → List Step → Type 0
 StepsGoOn None a answer xs xs' = ⊥
 StepsGoOn (Some s) a answer xs xs' = MovesSteps s a answer xs xs'

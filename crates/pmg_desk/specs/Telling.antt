@@ -1,4 +1,4 @@
--- What was told of a journal.
+-- The knowledge of a journal.
 use Rattle.std.specs.Prelude.{◌≡◌, ℕ, true, List, [], ◌∷◌, ◌++◌, Option, Some, None, drop}
 use mathlib.Core.List.{IsPrefix}
 use Rattle.pmg_value.specs.Signatures.{FenceName}
@@ -16,24 +16,24 @@ use Rattle.pmg_store.specs.Dump.{dump}
 use Rattle.pmg_journal.specs.Replays.{Happening, IsReplay, after_all, happening, sent_over}
 use Rattle.pmg_desk.specs.Publishing.{published_over}
 
--- What is known of the journal of a node is a replay, and all that it published is known.
+-- The known part of the journal of a node is a replay, and all its publications are known.
 pub record IsKnown (jobs : Jobs) (id : ℕ) (es : List Happening) (known : List Publication) : Type 0 where
   pub replay : IsReplay (new_server jobs id) es
   pub is_known : IsPrefix (published_over (new_server jobs id) es) known
 
--- the process's call at the node, once all of the journal happened
+-- the process's call at the node, after all events of the journal
 abbrev pub call_at : Jobs → ℕ → List Happening → Proc → Option CallState
 call_at jobs id es p = call_of (after_all (new_server jobs id) es).holding p
 
--- the fence that a process is in, or is released from
+-- the fence of a process that is in it, or is released from it
 abbrev pub fence_of_call : Option CallState → Option FenceName
 fence_of_call (Some (CallState.in_fence f)) = Some f
 fence_of_call (Some (CallState.released f gone)) = Some f
 fence_of_call c = None
 
 -- The process was released from the fence at the end of the journal, before its last event. At some time of the journal the fence was
--- ready at the node, with those that were gone by then. All is known that was published until the end, and so the fence is ready at the
--- levels that are known.
+-- ready at the node, with the participants that were gone by then. All publications until the end are known. Therefore the fence is ready
+-- at the known levels.
 pub record WasReadyAt (jobs : Jobs) (id : ℕ) (p : Proc) (fence : FenceName) (gone : List Proc) (journal : List Happening) (known : List Publication) : Type 0 where
   pub es : List Happening
   pub later : List Happening
@@ -44,19 +44,19 @@ pub record WasReadyAt (jobs : Jobs) (id : ℕ) (p : Proc) (fence : FenceName) (g
   pub gone_then : gone ≡ gone_by jobs id (after_all (new_server jobs id) es).holding.table fence
   pub levels_known : is_ready jobs id (after_all (new_server jobs id) es).holding.table fence (level_at (far_of known)) ≡ true
 
--- The act was replied so at the end of some journal of the node, which is a replay.
+-- The node gave this reply to the act at the end of some journal, which is a replay.
 pub record WasReplied (jobs : Jobs) (id : ℕ) (act : Act) (reply : Reply) : Type 0 where
   pub es : List Happening
   pub replay : IsReplay (new_server jobs id) (es ++ happening act reply ∷ [])
 
--- The frames are all that some journal of the node sent, which is a replay, but for the first ones.
+-- Some journal of the node, which is a replay, sent the frames. They are all its frames without some first ones.
 pub record WasSent (jobs : Jobs) (id : ℕ) (frames : List Sent) : Type 0 where
   pub es : List Happening
   pub replay : IsReplay (new_server jobs id) es
   pub taken : ℕ
   pub are_the_rest : frames ≡ drop taken (sent_over (new_server jobs id) es)
 
--- The text is the far dump of the node as some journal of it leaves it, which is a replay.
+-- The text is the far dump of the node after some journal, which is a replay.
 pub record WasFarDump (jobs : Jobs) (id : ℕ) (text : List ℕ) : Type 0 where
   pub es : List Happening
   pub replay : IsReplay (new_server jobs id) es

@@ -1,4 +1,4 @@
-//! A client: one process of a node, as one thread calls its server.
+//! A client: one process of a node, used by one thread to call its server.
 ghost use Rattle.std.specs.Prelude.{◌≡◌, ◌≢◌, ◌≤◌, ◌∷◌, ◌++◌, ℕ, [], false, true, Err, IfErr, IfOk, IfSome};
 ghost use Rattle.pmg_value.specs.CheckOrder.{first_of};
 ghost use Rattle.pmg_value.specs.Spelling.{spelling};
@@ -28,7 +28,7 @@ use std::alloc::{AllocError, Global};
 use std::marker::Model;
 use std::sync::Wait;
 
-/// One process at home at a desk's node, as its thread calls the server.
+/// One process at home at a desk's node, used by its thread to call the server.
 pub struct Client<'d> {
     pub(crate) desk: &'d Desk,
     pub(crate) viewer: Viewer,
@@ -76,13 +76,13 @@ impl<'d> Model for Client<'d> {
 /// A client that did not end.
 #[derive(Drop)]
 pub struct Unended<'d> {
-    /// Why it did not.
+    /// The reason.
     pub refusal: Refusal,
     /// The client.
     pub client: Client<'d>,
 }
 
-/// Copies of the processes.
+/// Returns copies of the processes.
 pub(crate) fn copies_of(alloc: Global, procs: &[Proc]) -> Result<Vec<Proc>, AllocError>
     ensures { IfOk result (λ copies. copies.items ≡ procs.now) }
 {
@@ -93,7 +93,7 @@ pub(crate) fn copies_of(alloc: Global, procs: &[Proc]) -> Result<Vec<Proc>, Allo
     Ok(copies)
 }
 
-/// What the process waits for, where it waits until it stands otherwise.
+/// Returns the condition that the process waits for, if it waits until its status changes.
 fn awaited_by(proc: &Proc, past: Option<Status>) -> WaitFor<'_>
     ensures { (act : ModelAct) (reply : ModelReply) → RepliesThere result act reply → IfSome past (λ status. RepliesPast proc.now (status_in status) act reply) }
 {
@@ -104,7 +104,7 @@ fn awaited_by(proc: &Proc, past: Option<Status>) -> WaitFor<'_>
 }
 
 impl<'d> Client<'d> {
-    /// A client that has called nothing.
+    /// Makes a client that has made no call.
     pub(crate) fn new(desk: &'d Desk, viewer: Viewer, transcript: Transcript) -> Client<'d>
         requires book { viewer.book ≡ desk.now.place.told.book }
         requires list { desk.now.place.list.log ≡ [] }
@@ -122,30 +122,29 @@ impl<'d> Client<'d> {
         }
     }
 
-    /// Its process.
+    /// Returns its process.
     pub fn proc(&self) -> &Proc
         ensures { result.now ≡ proc_of self.now }
     {
         &self.notes.transcript().proc
     }
 
-    /// What it called so far.
+    /// Returns its calls so far.
     pub fn transcript(&self) -> &Transcript
         ensures { result.now ≡ self.now.transcript }
     {
         self.notes.transcript()
     }
 
-    /// Whether a call of it waits: it entered a fence and did not leave it, or its get was not answered yet.
+    /// Returns whether a call of it waits: it entered a fence and did not leave it, or its get was not answered yet.
     pub fn in_call(&self) -> bool
         ensures { result ≡ is_waiting self.now }
     {
         self.notes.in_call()
     }
 
-    /// It puts the value under the key, to be seen as the scope says (PMIx Standard 5.0, PMIx_Put). Refused as BadParam where the key
-    /// begins with `pmix` or the scope is PMIX_SCOPE_UNDEF, as Busy where a call of it waits, as TooMany past the limits of what is
-    /// put, and as NoMemory.
+    /// Puts the value under the key, visible as the scope says (PMIx Standard 5.0, PMIx_Put). Errors: `BadParam` if the key begins with
+    /// `pmix` or the scope is PMIX_SCOPE_UNDEF; `Busy` if a call of it waits; `TooMany` past the limits of the puts; `NoMemory`.
     pub fn put(&mut self, scope: Scope, key: Key, value: Value) -> Result<(), Refusal>
         ensures answer { Answers result (first_of (put_cause_of (is_waiting self.old) (puts_of self.old) scope key (spelling value)) tt) }
         ensures noted { ClientNotes self.old self.new (Calling.put scope key (spelling value)) (λ _. ModelReply.done) result }
@@ -155,7 +154,7 @@ impl<'d> Client<'d> {
         self.notes.put(scope, key, value)
     }
 
-    /// Makes the act at the node, as this call, once the process does not stand so any more.
+    /// Performs the act at the node, as this call, once the process's status has changed from the given one.
     fn call<R: Wait>(
         &mut self,
         rt: &R,
@@ -177,7 +176,7 @@ impl<'d> Client<'d> {
         self.notes.end(call, answer)
     }
 
-    /// Asks this of the node, once the process does not stand so any more.
+    /// Makes this request to the node, once the process's status has changed from the given one.
     fn request<R: Wait>(
         &mut self,
         rt: &R,
@@ -193,8 +192,8 @@ impl<'d> Client<'d> {
         self.call(rt, past, call, Act::Request(request))
     }
 
-    /// It commits what it put (PMIx Standard 5.0, PMIx_Commit): the commit's number, from 1. Refused as Terminated, as Busy where a
-    /// call of it waits, as TooMany past 4,294,967,294 commits or the limits of what is sealed, as Closed, and as NoMemory.
+    /// Commits its puts (PMIx Standard 5.0, PMIx_Commit), and returns the commit's number, from 1. Errors: `Terminated`; `Busy` if a call
+    /// of it waits; `TooMany` past 4,294,967,294 commits or the limits of sealed puts; `Closed`; `NoMemory`.
     pub fn commit<R: Wait>(&mut self, rt: &R) -> Result<u64, Refusal>
         ensures told { IsEvent result → Tells self.old self.new (ModelAct.commit (proc_of self.old) (batch_of self.old)) (reply_in ModelReply.committed result) }
         ensures seen { IfOk result (λ n. n ≤ level_at (far_of self.new.viewer.log) (proc_of self.old)) }
@@ -205,8 +204,8 @@ impl<'d> Client<'d> {
         committed_by(self.call(rt, None, Call::Commit, act))
     }
 
-    /// It enters its next fence of these participants, of which it is one; an empty list stands for its namespace (PMIx Standard
-    /// 5.0, PMIx_Fence): the instance of the fence, from 1. A collecting fence shows each participant's commits. Errors: `BadParam`,
+    /// Enters its next fence of these participants, which include it, and returns the instance of the fence, from 1. An empty list means
+    /// its namespace (PMIx Standard 5.0, PMIx_Fence). A collecting fence shows each participant's commits. Errors: `BadParam`,
     /// `UnknownNamespace`, `Terminated`, `Busy`, `NotAParticipant`, `TooMany`, `Closed`, `NoMemory`.
     pub fn enter<R: Wait>(&mut self, rt: &R, list: &[Proc], collect: bool) -> Result<u64, Refusal>
         ensures told { IsEvent result → Tells self.old self.new (ModelAct.request (ModelRequest.enter (proc_of self.old) list.now collect))
@@ -220,7 +219,7 @@ impl<'d> Client<'d> {
         entered_by(self.request(rt, None, request))
     }
 
-    /// It waits until it is released from the fence that it entered, and leaves it: the instance, and the participants that were
+    /// Waits until it is released from the fence that it entered, and leaves it. Returns the instance, and the participants that were
     /// gone. Errors: `Terminated`, `Closed`, `NoMemory`.
     pub fn leave<R: Wait>(&mut self, rt: &R) -> Result<Release, Refusal>
         ensures told { IsEvent result → Tells self.old self.new (ModelAct.request (ModelRequest.leave (proc_of self.old))) (reply_in release_reply result) }
@@ -233,9 +232,8 @@ impl<'d> Client<'d> {
         release_by(self.request(rt, Some(Status::InFence), request))
     }
 
-    /// It enters its next fence of these participants, waits until it is released, and leaves it. Errors: `BadParam`,
-    /// `UnknownNamespace`, `Terminated`, `Busy`, `NotAParticipant`, `TooMany`; `Closed` and `NoMemory`, where `in_call` says whether
-    /// it entered.
+    /// Enters its next fence of these participants, waits until it is released, and leaves it. Errors: `BadParam`, `UnknownNamespace`,
+    /// `Terminated`, `Busy`, `NotAParticipant`, `TooMany`; after `Closed` and `NoMemory`, `in_call` says whether it entered.
     pub fn fence<R: Wait>(
         &mut self,
         rt: &R,
@@ -252,7 +250,7 @@ impl<'d> Client<'d> {
         self.leave(rt)
     }
 
-    /// It asks for a key of another process, or for a reserved one of any: the value, or its get waits.
+    /// Asks for a key of another process, or for a reserved key of any process. Returns the value, or that its get waits.
     pub(crate) fn ask<R: Wait>(
         &mut self,
         rt: &R,
@@ -269,8 +267,7 @@ impl<'d> Client<'d> {
         asked_by(self.request(rt, None, request))
     }
 
-    /// It waits until its get is answered, and takes the answer. Errors: `NotFound`, `OutsideScope`, `Terminated`, `Closed`,
-    /// `NoMemory`.
+    /// Waits until its get is answered, and takes the answer. Errors: `NotFound`, `OutsideScope`, `Terminated`, `Closed`, `NoMemory`.
     pub fn take<R: Wait>(&mut self, rt: &R) -> Result<Taking, Refusal>
         ensures told { IsEvent result → Tells self.old self.new (ModelAct.request (ModelRequest.take (proc_of self.old))) (reply_in taking_reply result) }
         ensures waited { IfOk result (λ r. r ≢ Taking.Waiting) }
@@ -281,7 +278,7 @@ impl<'d> Client<'d> {
         taking_by(self.request(rt, Some(Status::Parked), request))
     }
 
-    /// What it called so far, in the place of the client: it calls no more, and its process has not ended by this.
+    /// Returns its calls so far, and consumes the client: it makes no more calls, and its process does not end by this.
     pub fn into_transcript(self) -> Transcript
         ensures { result ≡ self.entry.transcript }
     {
@@ -294,7 +291,8 @@ impl<'d> Client<'d> {
         notes.into_transcript()
     }
 
-    /// It ends (PMIx Standard 5.0, PMIx_Finalize): its transcript. Errors: `Terminated`, `Closed`, `NoMemory`, with the client.
+    /// Ends the process (PMIx Standard 5.0, PMIx_Finalize), and returns its transcript. Errors, with the client: `Terminated`, `Closed`,
+    /// `NoMemory`.
     pub fn terminate<R: Wait>(mut self, rt: &R) -> Result<Transcript, Unended<'d>>
         ensures proc { IfOk result (λ t. t.proc ≡ proc_of self.entry) }
         ensures noted { IfOk result (λ t. (n : ℕ)
@@ -312,7 +310,7 @@ impl<'d> Client<'d> {
         }
     }
 
-    /// It ends: the number of its last commit, which is its end.
+    /// Ends the process, and returns the number of its last commit, which is its end.
     fn end<R: Wait>(&mut self, rt: &R) -> Result<u64, Refusal>
         ensures told { IsEvent result → Tells self.old self.new (ModelAct.request (ModelRequest.terminate (proc_of self.old))) (reply_in ModelReply.ended result) }
         ensures noted { ClientNotes self.old self.new (Calling.request (ModelRequest.terminate (proc_of self.old))) ModelReply.ended result }

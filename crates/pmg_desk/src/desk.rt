@@ -1,4 +1,4 @@
-//! What is asked of a desk by who runs its node.
+//! The calls on a desk by the code that runs its node.
 ghost use Rattle.std.specs.Prelude.{◌≡◌, ◌⊎◌, [], IfErr, IfOk, OnErr, OnOk};
 ghost use mathlib.Core.List.{IsPrefix};
 ghost use Rattle.pmg_value.specs.declared.refusal.Refusal.TheVariants as refusals;
@@ -28,9 +28,9 @@ use std::collections::VecDeque;
 use std::sync::Wait;
 
 impl Desk {
-    /// The client of the process, which called nothing yet. Refused as BadParam for a process that the standard names or that its
-    /// namespace has not, as UnknownNamespace, as NotMine where it is at home at another node, as Terminated, as Exists where it
-    /// has a client, as Closed, and as NoMemory.
+    /// Makes the client of the process, without calls. Errors: `BadParam` for a process that the standard names or that its namespace
+    /// lacks; `UnknownNamespace`; `NotMine` if it is at home at another node; `Terminated`; `Exists` if it has a client; `Closed`;
+    /// `NoMemory`.
     pub fn client<R: Wait>(&self, rt: &R, proc: &Proc) -> Result<Client<'_>, Refusal>
         ensures proc { IfOk result (λ c. proc_of c ≡ proc.now) }
         ensures node { IfOk result (λ c. (c.jobs ≡ self.now.place.registry) × (c.node ≡ self.now.place.node)) }
@@ -55,7 +55,7 @@ impl Desk {
         }
     }
 
-    /// Makes the act at the node.
+    /// Performs the act at the node.
     fn act<R: Wait>(&self, rt: &R, act: Act) -> Result<Reply, Refusal>
         ensures { IsEvent result → WasReplied self.now.place.registry self.now.place.node (act_of act) (reply_in reply_as result) }
     {
@@ -66,8 +66,8 @@ impl Desk {
         held.end_with(rt, answer)
     }
 
-    /// Makes the act at the node for the client of the process, once that is there which it waits for. The client is told of what was
-    /// published, and of all of the journal.
+    /// Performs the act at the node for the client of the process, once the condition that it waits for holds. The client learns the
+    /// publications, and the whole journal.
     pub(crate) fn act_for<R: Wait>(
         &self,
         rt: &R,
@@ -105,8 +105,8 @@ impl Desk {
         delivery_by(self.act(rt, Act::Deliver(frame)))
     }
 
-    /// Frames of other nodes arrive together: they are delivered one after the other under one lock, and who waits is woken once.
-    /// Refused as Closed and as NoMemory; then the first of them were delivered, and the others were not.
+    /// Delivers frames of other nodes that arrive together, one after another under one lock, and wakes the waiting callers once. Errors:
+    /// `Closed`; `NoMemory`. Then the first frames were delivered, and the others were not.
     pub fn deliver_all<R: Wait>(&self, rt: &R, frames: Vec<Frame>) -> Result<(), Refusal>
         ensures { IfErr result (λ e. (e ≡ refusals.NoMemory) ⊎ (e ≡ refusals.Closed)) }
     {
@@ -117,14 +117,14 @@ impl Desk {
         held.end_with(rt, delivered)
     }
 
-    /// Asks other nodes again for what is missing. Errors: `Closed`, `NoMemory`.
+    /// Asks other nodes again for missing data. Errors: `Closed`, `NoMemory`.
     pub fn nudge<R: Wait>(&self, rt: &R) -> Result<(), Refusal>
         ensures { IsEvent result → WasReplied self.now.place.registry self.now.place.node (ModelAct.request ModelRequest.nudge) (reply_in (λ _. ModelReply.done) result) }
     {
         nudged_by(self.act(rt, Act::Request(Request::Nudge)))
     }
 
-    /// Changes the process sets, which is done at node 0: the number of the change, from 1.
+    /// Changes the process sets, which is done at node 0, and returns the number of the change, from 1.
     fn change_sets<R: Wait>(&self, rt: &R, request: Request) -> Result<u64, Refusal>
         requires { IsChange (request_of request) }
         ensures { IsEvent result → WasReplied self.now.place.registry self.now.place.node (ModelAct.request (request_of request)) (reply_in ModelReply.defined result) }
@@ -149,8 +149,8 @@ impl Desk {
         self.change_sets(rt, Request::Delete(name.copy()?))
     }
 
-    /// Takes the frames that the node sent and that were not taken yet, once there are some. Refused as Closed, and as TooMany past
-    /// 2^64 - 1 frames.
+    /// Takes the frames that the node sent and that were not taken yet, once there are any. Errors: `Closed`; `TooMany` past 2^64 - 1
+    /// frames.
     pub fn take_frames<R: Wait>(&self, rt: &R) -> Result<VecDeque<Sent>, Refusal>
         ensures { IfOk result (λ frames. WasSent self.now.place.registry self.now.place.node frames.items) }
     {
@@ -162,7 +162,7 @@ impl Desk {
         frames
     }
 
-    /// The far dump of the node: what other nodes may know of all processes, as text. Refused as Closed and as NoMemory.
+    /// Returns the far dump of the node: the knowledge of all processes that other nodes may have, as text. Errors: `Closed`, `NoMemory`.
     pub fn far_dump<R: Wait>(&self, rt: &R) -> Result<Vec<u8>, Refusal>
         ensures { IfOk result (λ text. WasFarDump self.now.place.registry self.now.place.node text.items) }
     {
@@ -177,7 +177,7 @@ impl Desk {
         }
     }
 
-    /// Whether the desk is closed: its node was given up, and every call that needs it is refused as Closed.
+    /// Returns whether the desk is closed: its node was given up, and every call that needs it is refused as Closed.
     pub fn is_closed<R: Wait>(&self, rt: &R) -> bool {
         let Some(held) = self.hold(rt, &WaitFor::Nothing) else {
             return true;
@@ -194,7 +194,7 @@ impl Desk {
         }
     }
 
-    /// Ends the desk: its journal, with what is known of it, for an audit.
+    /// Ends the desk, and returns its journal, with its evidence, for an audit.
     pub fn into_record<R: Wait>(self, rt: &R) -> Record
         ensures node { result.node ≡ self.place.node }
         ensures registry { result.registry ≡ self.place.registry }
@@ -214,7 +214,7 @@ impl Desk {
         }
     }
 
-    /// Ends the desk: its journal.
+    /// Ends the desk, and returns its journal.
     pub fn into_journal<R: Wait>(self, rt: &R) -> Journal
         ensures node { result.node ≡ self.place.node }
         ensures registry { result.registry ≡ self.place.registry }

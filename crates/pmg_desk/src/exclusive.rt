@@ -1,11 +1,11 @@
-//! A value that may be shared between threads, and that nobody can read through what is shared.
+//! A value that threads may share, and that nobody can read through a shared reference.
 ghost use Rattle.std.specs.Prelude.{◌≡◌};
 
 use counted_slot::Fits;
 use std::marker::Model;
 
-/// A value that is only ever moved: a reference to it gives no access to what is inside. So it may be shared between threads
-/// where the value may only be sent.
+/// A value that is only ever moved: a reference to it gives no access to the inside. Therefore threads may share it even if the value may
+/// only be sent.
 pub struct Exclusive<T> {
     value: T,
 }
@@ -17,14 +17,14 @@ impl<T> Model for Exclusive<T> {
 }
 
 impl<T> Exclusive<T> {
-    /// The value, alone.
+    /// Wraps the value.
     pub fn new(value: T) -> Exclusive<T>
         ensures { result ≡ record { value = value } }
     {
         Exclusive { value }
     }
 
-    /// The value again.
+    /// Returns the value.
     pub fn into_inner(self) -> T
         ensures { result ≡ self.value }
     {
@@ -33,7 +33,7 @@ impl<T> Exclusive<T> {
     }
 }
 
-/// A fact about the value is one about the value alone.
+/// A fact about the wrapper is a fact about its value only.
 impl<T: Fits> Fits for Exclusive<T> {
     type Tag = T::Tag;
 

@@ -1,4 +1,4 @@
-//! An act that happens at a node, is noted, and is published.
+//! The performance of an act at a node, its note in the journal, and its publication.
 ghost use Rattle.std.specs.Prelude.{◌≡◌, ◌⊎◌, ◌<◌, ◌++◌, ◌∷◌, [], true, drop, IfOk, IfErr, IfSome, IsNone, IsOkUnless, IsSome, OnErr, OnOk, None, Err, vec_capacity, vec_len};
 ghost use Rattle.std.specs.Option.{option_to_list};
 ghost use mathlib.Core.List.{IsPrefix};
@@ -21,21 +21,21 @@ use std::alloc::{AllocError, Global};
 use std::collections::VecDeque;
 use std::sync::Wait;
 
-/// What a node answers to an act, and what it joined.
+/// The answer of a node to an act, and the pieces that it joined.
 #[derive(Drop)]
 struct Done {
     told: Result<Reply, Refusal>,
     joined: Joined,
 }
 
-/// Whether an allocation failed.
+/// Returns whether an allocation failed.
 fn is_memory(refusal: Refusal) -> bool
     ensures { result ≡ is_memory refusal }
 {
     matches!(refusal, Refusal::NoMemory)
 }
 
-/// Does the act. What is sent goes after the frames of the outbox. Refused as NoMemory alone, and then nothing happened.
+/// Performs the act, and appends the sent frames to the outbox. Errors: only `NoMemory`, and then nothing happened.
 fn done_by(node: &mut Server, act: &Act, outbox: &mut VecDeque<Sent>) -> Result<Done, Refusal>
     ensures reply { IfOk result (λ d. reply_to node.old (act_of act.now) ≡ reply_in reply_as d.told) }
     ensures kind { IfOk result (λ d. IsEvent d.told) }
@@ -58,7 +58,7 @@ fn done_by(node: &mut Server, act: &Act, outbox: &mut VecDeque<Sent>) -> Result<
     }
 }
 
-/// The piece as a list, which is empty where there is none.
+/// Returns the piece as a list, which is empty without a piece.
 fn list_of(alloc: Global, piece: Option<Piece>) -> Result<Vec<Piece>, AllocError>
     ensures { IfOk result (λ list. list.items ≡ option_to_list piece) }
 {
@@ -68,7 +68,7 @@ fn list_of(alloc: Global, piece: Option<Piece>) -> Result<Vec<Piece>, AllocError
     }
 }
 
-/// Publishes what was joined, if something was.
+/// Publishes the joined pieces, if there are any.
 fn publish<R: Wait>(
     publisher: &mut Publisher,
     rt: &R,
@@ -89,7 +89,7 @@ fn publish<R: Wait>(
     publisher.publish(rt, near, far)
 }
 
-/// Copies of the frames of the outbox from that place on.
+/// Returns copies of the frames of the outbox from that place on.
 fn frames_from(
     alloc: Global,
     outbox: &VecDeque<Sent>,
@@ -106,7 +106,7 @@ fn frames_from(
     Ok(frames)
 }
 
-/// What an act leaves for the journal: the event, what the node did, and the answer for who asked and for its transcript.
+/// The results of an act for the journal: the event, the node's step, and the answer for the caller and for its transcript.
 struct Written {
     event: Event,
     sent: VecDeque<Sent>,
@@ -120,7 +120,7 @@ impl Drop for Written {
 }
 
 impl Written {
-    /// Writes the event into the journal and what the node did into the steps, for which there are places: the answer.
+    /// Writes the event into the journal, and the node's step into the steps, which both have room. Returns the answer.
     fn write(self, journal: &mut Journal, steps: &mut Vec<Step>, is_free: bool) -> AnswerCopies
         requires place { vec_len journal.old.events < vec_capacity journal.old.events }
         requires step { vec_len steps.old < vec_capacity steps.old }
@@ -137,7 +137,7 @@ impl Written {
     }
 }
 
-/// Copies the frames that were sent, which are those of the outbox from that place on, and the answer.
+/// Copies the sent frames, which are the frames of the outbox from that place on, and the answer.
 fn written_by(
     alloc: Global,
     outbox: &VecDeque<Sent>,
@@ -160,8 +160,8 @@ fn written_by(
     })
 }
 
-/// Adds the event to the list, and publishes what was joined. None where an allocation fails: then the list may have the event, and
-/// nothing is published.
+/// Adds the event to the list, and publishes the joined pieces. Returns `None` if an allocation fails: then the list may have the event,
+/// and nothing is published.
 fn publish_written<R: Wait>(
     list: &mut Appender<Event>,
     publisher: &mut Publisher,
@@ -187,9 +187,9 @@ fn publish_written<R: Wait>(
     publish(publisher, rt, alloc, joined).ok()
 }
 
-/// Does the act of the node, if there is one, writes it into the journal with its answer and what the node did into the steps, and
-/// publishes what it joined; what somebody knows of the journal is a prefix of it. An allocation that fails before the act changes
-/// nothing; after it the node is given up, and journal, steps and published store stand.
+/// Performs the act of the node, if there is one, writes it into the journal with its answer and into the steps, and publishes the joined
+/// pieces. Each client's knowledge of the journal is a prefix of it. An allocation that fails before the act changes nothing. If one fails
+/// after it, the node is given up, and journal, steps and published store stay.
 pub(crate) fn happen_in<R: Wait>(
     node: &mut Option<Server>,
     journal: &mut Journal,

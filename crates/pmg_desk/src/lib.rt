@@ -1,4 +1,4 @@
-//! What lies under the lock of a node: the node, its journal, and the publisher of its board.
+//! The state under the lock of a node: the node, its journal, and the publisher of its board.
 #![tactic(auto)]
 
 mod client;

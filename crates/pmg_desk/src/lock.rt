@@ -1,4 +1,4 @@
-//! The lock of a desk, and what waits for it.
+//! The lock of a desk, and the conditions that callers wait for.
 ghost use Rattle.std.specs.Prelude.{◌≡◌, Err, IfSome, IfOk, IsOkUnless, IsSome, is_some, true};
 ghost use Rattle.pmg_value.specs.declared.refusal.Refusal.TheVariants as refusals;
 ghost use Rattle.pmg_desk.specs.Awaiting.{IsThere};
@@ -18,8 +18,8 @@ use pmg_value::{NodeId, Proc, Refusal};
 use std::collections::BTreeMap;
 use std::sync::{Condvar, Mutex, MutexGuard, Wait};
 
-/// Which desk it is: its node's index, its group, its journal, as the list that it was at the start, and its publisher, by what that
-/// told at the start.
+/// The identity of a desk: its node's index, its group, its journal, as the list at the start, and its publisher, by its publications at
+/// the start.
 #[derive(Drop)]
 pub struct Place {
     pub(crate) node: NodeId,
@@ -28,26 +28,26 @@ pub struct Place {
     pub(crate) told: Told,
 }
 
-/// A state lies at the place of its desk, whatever happens.
+/// A state keeps the place of its desk through all events.
 impl Fits for State {
     type Tag = Place;
 
     ghost fits = { λ place s. LiesAt place s };
 }
 
-/// What only who has the lock may look at.
+/// The data that only the holder of the lock may read.
 #[derive(Drop)]
 struct LockState {
-    /// How often there were frames after something happened; it starts again past its end.
+    /// The number of times that there were frames after an event; it wraps past its end.
     sent: u64,
-    /// How often a client that waits could go on after something happened; it starts again past its end.
+    /// The number of times that a waiting client could continue after an event; it wraps past its end.
     settled: u64,
-    /// The processes that were given a client, and how each stands that waits until it stands otherwise.
+    /// The processes with a client, each with the status whose change it waits for, if it does.
     clients: BTreeMap<Proc, Option<Status>>,
 }
 
-/// One server as threads share it: its node, its journal and the publisher of its board, under one lock. It is not dropped: end it
-/// by `into_record`.
+/// One server that threads share: its node, its journal and the publisher of its board, under one lock. It is not dropped: end it by
+/// `into_record`.
 pub struct Desk {
     pub(crate) place: Place,
     gate: Mutex<LockState>,
@@ -57,19 +57,19 @@ pub struct Desk {
     ghost same: { room ≡ place },
 }
 
-/// What who takes the lock waits for.
+/// The condition that a caller waits for before it takes the lock.
 #[derive(Drop)]
 pub(crate) enum WaitFor<'a> {
-    /// For nothing but the lock.
+    /// For the lock only.
     Nothing,
     /// Until there are frames to be taken.
     Frames,
-    /// Until the process stands otherwise.
+    /// Until the process's status changes.
     Past(&'a Proc, Status),
 }
 
 impl WaitFor<'_> {
-    /// Whether it is there. Who waits at a closed desk waits no longer.
+    /// Returns whether the condition holds. Nobody waits any more at a closed desk.
     fn is_there(&self, state: &State) -> bool
         ensures { result ≡ true → IsThere self.now state.now.node }
     {
@@ -84,7 +84,7 @@ impl WaitFor<'_> {
     }
 }
 
-/// Whether one of the clients that wait can go on.
+/// Returns whether one of the waiting clients can continue.
 fn can_go_on(clients: &BTreeMap<Proc, Option<Status>>, state: &State) -> bool {
     for (proc, past) in clients.iter() {
         if let Some(status) = past {
@@ -97,7 +97,7 @@ fn can_go_on(clients: &BTreeMap<Proc, Option<Status>>, state: &State) -> bool {
 }
 
 impl LockState {
-    /// The process waits until it does not stand so any more; or, with none, it waits no longer.
+    /// Notes that the process waits until its status changes from this one; or, with `None`, that it waits no more.
     fn note_past(&mut self, proc: &Proc, past: Option<Status>) {
         if let Some(noted) = self.clients.get_mut(proc) {
             *noted = past;
@@ -105,8 +105,8 @@ impl LockState {
     }
 }
 
-/// The lock, with what lies under it, and whether the desk was open when it was taken. It is not dropped: end it by `put_back`, by
-/// `end_with` where something happened, or by `close`.
+/// The lock, with the state under it, and whether the desk was open when the lock was taken. A guard is not dropped: end it by `put_back`,
+/// by `end_with` after an event, or by `close`.
 pub(crate) struct DeskGuard<'d> {
     desk: &'d Desk,
     gate: MutexGuard<'d, LockState>,
@@ -115,7 +115,7 @@ pub(crate) struct DeskGuard<'d> {
 }
 
 impl Desk {
-    /// Opens a new server of the node of that index in the group. Errors: `NoMemory` alone.
+    /// Opens a new server of the node of that index in the group. Errors: only `NoMemory`.
     pub fn new<R: Wait>(rt: &R, id: NodeId, registry: Registry) -> Result<Desk, Refusal>
         requires { is_node registry id ≡ true }
         ensures node { IfOk result (λ d. d.place.node ≡ id) }
@@ -146,7 +146,7 @@ impl Desk {
         })
     }
 
-    /// Takes the state out of its room, where it lies whenever nobody has the lock.
+    /// Takes the state out of its room, where it is whenever nobody has the lock.
     fn take_out(&self) -> Option<State>
         ensures { IfSome result (LiesAt self.now.place) }
     {
@@ -176,8 +176,8 @@ impl Desk {
         }
     }
 
-    /// Takes the lock, once that is there which is waited for. None where no state lies in the room, which is so only once the desk
-    /// has ended.
+    /// Takes the lock, once the awaited condition holds. Returns `None` if the room has no state, which happens only after the desk has
+    /// ended.
     pub(crate) fn hold<R: Wait>(&self, rt: &R, awaited: &WaitFor<'_>) -> Option<DeskGuard<'_>>
         ensures there { IfSome result (λ h. IsThere awaited.now h.state.node) }
         ensures state { IfSome result (λ h. LiesAt self.now.place h.state) }
@@ -201,7 +201,7 @@ impl Desk {
         unreachable!()
     }
 
-    /// Gives the lock up, and takes it again once that may be there which is waited for.
+    /// Gives the lock up, and takes it again once the awaited condition may hold.
     fn sleep<'d, R: Wait>(
         &'d self,
         rt: &R,
@@ -226,7 +226,7 @@ impl Desk {
         }
     }
 
-    /// What lies in the room of a desk that nobody shares any more.
+    /// Returns the state in the room of a desk that nobody shares any more.
     pub(crate) fn into_state(self) -> (Place, Option<State>)
         ensures place { result.0 ≡ self.place }
         ensures state { IfSome result.1 (LiesAt self.place) }
@@ -246,7 +246,7 @@ impl Desk {
 }
 
 impl DeskGuard<'_> {
-    /// A viewer for the client of the process, which has none yet.
+    /// Takes a viewer for the client of the process, which has no client yet.
     pub(crate) fn give_viewer(&mut self, proc: Proc) -> Result<Viewer, Refusal>
         ensures book { IfOk result (λ v. v.book ≡ self.old.state.publisher.book) }
         ensures home { IfOk result (λ _. IsOwn self.old.state.journal.registry self.old.state.journal.node proc) }
@@ -270,7 +270,7 @@ impl DeskGuard<'_> {
         }
     }
 
-    /// Wakes who waits for frames where there are some, and the clients that wait where one of them can go on.
+    /// Wakes the callers that wait for frames, if there are frames, and the waiting clients, if one of them can continue.
     fn wake(&mut self)
         ensures state { self.new.state ≡ self.old.state }
         ensures desk { self.new.desk.now ≡ self.old.desk.now }
@@ -299,7 +299,7 @@ impl DeskGuard<'_> {
         drop(gate);
     }
 
-    /// Gives the lock up after a look at the state, which closed no desk.
+    /// Gives the lock up after a look at the state that closed no desk.
     pub(crate) fn put_back<R: Wait>(self, rt: &R)
         requires state { LiesAt self.desk.now.place self.state }
         requires open { self.was_open ≡ true → IsSome self.state.node }
@@ -307,7 +307,7 @@ impl DeskGuard<'_> {
         self.release(rt);
     }
 
-    /// Gives the lock up after something that is answered so, and wakes who can go on: the answer. The desk is open if it was, unless
+    /// Gives the lock up after an event, wakes the callers that can continue, and returns the answer. The desk is open if it was, unless
     /// the answer is NoMemory.
     pub(crate) fn end_with<R: Wait, T>(
         mut self,
@@ -325,7 +325,7 @@ impl DeskGuard<'_> {
         answer
     }
 
-    /// Closes the desk, wakes who waits at it, and gives the lock up.
+    /// Closes the desk, wakes its waiting callers, and gives the lock up.
     pub(crate) fn close<R: Wait>(mut self, rt: &R)
         requires { LiesAt self.desk.now.place self.state }
     {

@@ -1,4 +1,4 @@
-//! What a client reads.
+//! The reads of a client.
 ghost use Rattle.std.specs.Prelude.{◌≡◌, ◌≢◌, ◌&&◌, ◌==◌, ℕ, not, false, true, Err, IfErr, IfOk};
 ghost use Rattle.std.specs.FinMap as finite;
 ghost use Rattle.std.specs.Option.{option_map};
@@ -31,7 +31,7 @@ use pmg_publish::{FarSnapshot, Snapshot, Viewer};
 use pmg_value::{Key, NodeId, Proc, Refusal, Value};
 use std::sync::Wait;
 
-/// Returns the value that was taken: a get that parked is answered by one, once the client need not wait.
+/// Returns the taken value: a value answers a get that parked, once the client need not wait.
 fn value_in(taking: Taking) -> Value
     requires idle { taking ≢ Taking.Idle }
     requires waiting { taking ≢ Taking.Waiting }
@@ -43,7 +43,7 @@ fn value_in(taking: Taking) -> Value
     }
 }
 
-/// What a read of a process at home at the node is answered by what was read of both stores.
+/// Returns the answer to a read of a process at home at the node, from the snapshot of both stores.
 #[tactic(auto, unfolding(pmg_get::specs::Gets::resolve))]
 fn near_now(sight: Snapshot) -> Result<Value, Refusal>
     ensures { IsDueOrClosed result (reply_of (resolve (Seen.local (option_map spelling sight.near) (option_map spelling sight.far) sight.near_ended) modes.Now)) }
@@ -61,7 +61,7 @@ fn near_now(sight: Snapshot) -> Result<Value, Refusal>
     }
 }
 
-/// What a read of a process at home at another node is answered by what was read of the far store.
+/// Returns the answer to a read of a process at home at another node, from the snapshot of the far store.
 #[tactic(auto, unfolding(pmg_get::specs::Gets::resolve))]
 fn far_now(sight: FarSnapshot) -> Result<Value, Refusal>
     ensures { IsDueOrClosed result (reply_of (resolve (Seen.remote (option_map spelling sight.value) sight.ended) modes.Now)) }
@@ -72,7 +72,7 @@ fn far_now(sight: FarSnapshot) -> Result<Value, Refusal>
     }
 }
 
-/// What a viewer reads at a node of a key that is not reserved, of a target that is at home there or at another node.
+/// Reads at a node, through a viewer, a key that is not reserved, of a target that is at home there or at another node.
 fn plain_now(viewer: &mut Viewer, is_near: bool, target: &Proc, key: &Key) -> Result<Value, Refusal>
     ensures book { viewer.new.book ≡ viewer.old.book }
     ensures seen { IsPrefix viewer.old.log viewer.new.log }
@@ -85,7 +85,7 @@ fn plain_now(viewer: &mut Viewer, is_near: bool, target: &Proc, key: &Key) -> Re
     far_now(viewer.read_far(target, key)?)
 }
 
-/// What a read at the node of a reserved key is answered, where the target may be named.
+/// Returns the answer to a read at the node of a reserved key, for a target that may be named.
 fn reserved_now(registry: &Registry, id: NodeId, target: &Proc, key: &Key) -> Result<Value, Refusal>
     requires node { is_node registry.now id ≡ true }
     requires key { is_reserved key.now ≡ true }
@@ -97,14 +97,14 @@ fn reserved_now(registry: &Registry, id: NodeId, target: &Proc, key: &Key) -> Re
 }
 
 impl Client<'_> {
-    /// Whether the key is one of its own, that is none of the standard's.
+    /// Returns whether the key is its own, and does not belong to the standard.
     fn is_own(&self, target: &Proc, key: &Key) -> bool
         ensures { result ≡ is_own_key (proc_of self.now) (get_of target.now key.now) }
     {
         self.proc().cmp(target).is_eq() && !key.is_reserved()
     }
 
-    /// What it put under the key last, sealed or not.
+    /// Returns its last put under the key, sealed or not.
     fn own(&self, key: &Key) -> Result<Value, Refusal>
         ensures { (mode : GetMode) → GivesDue result (reply_of (resolve (Seen.own (finite.get (puts_of self.now).own key.now)) mode)) }
     {
@@ -114,7 +114,8 @@ impl Client<'_> {
         }
     }
 
-    /// Judges whose key is read, that is none of its own, by what the registry says of the target; and that no call of it waits.
+    /// Judges the target of a read, for a key that is not its own, by the registry's entry of the target; and checks that no call of it
+    /// waits.
     fn check_now(&self, target: &Proc, key: &Key, listing: Listing) -> Result<(), Refusal>
         requires other { is_own_key (proc_of self.now) (get_of target.now key.now) ≡ false }
         requires registered { listing.is_registered ≡ is_registered self.now.jobs target.now.nspace }
@@ -133,7 +134,7 @@ impl Client<'_> {
         Ok(())
     }
 
-    /// What it put under the key last, unless a call of it waits.
+    /// Returns its last put under the key, unless a call of it waits.
     fn free_own(&self, key: &Key) -> Result<Value, Refusal>
         ensures busy { is_waiting self.now ≡ true → result ≡ Err refusals.Busy }
         ensures answer { (mode : GetMode) → is_waiting self.now ≡ false
@@ -145,7 +146,7 @@ impl Client<'_> {
         self.own(key)
     }
 
-    /// A key of its own, as it put it last. The read is noted.
+    /// Returns its last put under its own key. The read is noted.
     fn get_own(&mut self, key: &Key, mode: Mode) -> Result<Value, Refusal>
         ensures later { IsLater self.old self.new }
         ensures own { IsOwnGet self.old self.new (get_of (proc_of self.old) key.now) mode result }
@@ -157,7 +158,7 @@ impl Client<'_> {
         answer
     }
 
-    /// It gets the target's key in the mode, and takes the answer where it waits.
+    /// Gets the target's key in the mode, and takes the answer if it waits.
     fn get_as<R: Wait>(
         &mut self,
         rt: &R,
@@ -179,9 +180,8 @@ impl Client<'_> {
         }
     }
 
-    /// It gets the target's key (PMIx Standard 5.0, PMIx_Get), and waits until there is something to answer. Errors: `BadParam`,
-    /// `UnknownNamespace`, `Terminated`, `Busy`, `NotFound`, `OutsideScope`; `Closed` and `NoMemory`, where `in_call` says whether the
-    /// get waits.
+    /// Gets the target's key (PMIx Standard 5.0, PMIx_Get), and waits until there is an answer. Errors: `BadParam`, `UnknownNamespace`,
+    /// `Terminated`, `Busy`, `NotFound`, `OutsideScope`; after `Closed` and `NoMemory`, `in_call` says whether the get waits.
     pub fn get<R: Wait>(&mut self, rt: &R, target: &Proc, key: &Key) -> Result<Value, Refusal>
         ensures later { IsLater self.old self.new }
         ensures own { is_own_key (proc_of self.old) (get_of target.now key.now) ≡ true → IsOwnGet self.old self.new (get_of target.now key.now) modes.Wait result }
@@ -191,10 +191,10 @@ impl Client<'_> {
         self.get_as(rt, target, key, Mode::Wait)
     }
 
-    /// It gets the target's key anew (PMIx Standard 5.0, PMIX_GET_REFRESH_CACHE). Where the target is at home at another node, that
-    /// node is asked what it has, and the get waits for the reply; any other key is told as it is there now. Errors: `BadParam`,
-    /// `UnknownNamespace`, `Terminated`, `Busy`, `NotFound`, `OutsideScope`; `TooMany` where no number is left for the request; `Closed`
-    /// and `NoMemory`, where `in_call` says whether the get waits, and `take` takes the answer.
+    /// Gets the target's key anew (PMIx Standard 5.0, PMIX_GET_REFRESH_CACHE). If the target is at home at another node, that node is
+    /// asked for its data, and the get waits for the reply. Any other key is answered as it is there now. Errors: `BadParam`,
+    /// `UnknownNamespace`, `Terminated`, `Busy`, `NotFound`, `OutsideScope`; `TooMany` if no number is left for the request. After
+    /// `Closed` and `NoMemory`, `in_call` says whether the get waits, and `take` takes the answer.
     pub fn get_refresh<R: Wait>(
         &mut self,
         rt: &R,
@@ -209,9 +209,9 @@ impl Client<'_> {
         self.get_as(rt, target, key, Mode::Refresh)
     }
 
-    /// What it reads of the target's key, and waits for nobody: of a target at home at another node in the far store alone. Refused as
-    /// BadParam where the target is misnamed or may not be asked for the key, as UnknownNamespace, as Busy where a call of it waits, as
-    /// NotFound, as OutsideScope, as Closed where the desk's publisher is closed, and as NoMemory.
+    /// Reads the target's key, and waits for nobody. If the target is at home at another node, it reads only the far store. Errors:
+    /// `BadParam` if the target is misnamed or may not be asked for the key; `UnknownNamespace`; `Busy` if a call of it waits; `NotFound`;
+    /// `OutsideScope`; `Closed` if the desk's publisher is closed; `NoMemory`.
     pub fn get_now(&mut self, target: &Proc, key: &Key) -> Result<Value, Refusal>
         ensures later { IsLater self.old self.new }
         ensures calls { self.new.transcript ≡ self.old.transcript }
@@ -231,7 +231,7 @@ impl Client<'_> {
         plain_now(&mut self.viewer, listing.home == *node, target, key)
     }
 
-    /// The level of the process as other nodes see it. It waits for nobody. Closed where the desk's publisher is closed.
+    /// Returns the level of the process as other nodes see it. It waits for nobody. Errors: `Closed` if the desk's publisher is closed.
     pub fn level_now(&mut self, proc: &Proc) -> Result<u64, Refusal>
         ensures later { IsLater self.old self.new }
         ensures calls { self.new.transcript ≡ self.old.transcript }

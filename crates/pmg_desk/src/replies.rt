@@ -1,4 +1,4 @@
-//! What a reply of the node tells a call, whose kind of reply it is.
+//! The results of calls, from the replies of the node.
 ghost use Rattle.std.specs.Prelude.{IfOk};
 ghost use Rattle.pmg_node_model.specs.Acts.{Reply as ModelReply};
 ghost use Rattle.pmg_node.specs.Acting.{reply_as};
@@ -9,7 +9,7 @@ ghost use Rattle.pmg_desk.specs.Answered.{SameReplies};
 use pmg_node::{Asked, Delivery, Release, Reply, Taking};
 use pmg_value::Refusal;
 
-/// The number of a commit. Or the refusal.
+/// Returns the number of a commit, or the refusal.
 pub(crate) fn committed_by(answer: Result<Reply, Refusal>) -> Result<u64, Refusal>
     requires { IfOk answer (λ r. IsCommitted (reply_as r)) }
     ensures { SameReplies ModelReply.committed reply_as result answer }
@@ -21,7 +21,7 @@ pub(crate) fn committed_by(answer: Result<Reply, Refusal>) -> Result<u64, Refusa
     }
 }
 
-/// The instance of a fence that is entered. Or the refusal.
+/// Returns the instance of an entered fence, or the refusal.
 pub(crate) fn entered_by(answer: Result<Reply, Refusal>) -> Result<u64, Refusal>
     requires { IfOk answer (λ r. IsEntered (reply_as r)) }
     ensures { SameReplies ModelReply.entered reply_as result answer }
@@ -33,7 +33,7 @@ pub(crate) fn entered_by(answer: Result<Reply, Refusal>) -> Result<u64, Refusal>
     }
 }
 
-/// The number of the last commit of a process that ended. Or the refusal.
+/// Returns the number of the last commit of an ended process, or the refusal.
 pub(crate) fn ended_by(answer: Result<Reply, Refusal>) -> Result<u64, Refusal>
     requires { IfOk answer (λ r. IsEnded (reply_as r)) }
     ensures { SameReplies ModelReply.ended reply_as result answer }
@@ -45,7 +45,7 @@ pub(crate) fn ended_by(answer: Result<Reply, Refusal>) -> Result<u64, Refusal>
     }
 }
 
-/// The number of a change of the process sets. Or the refusal.
+/// Returns the number of a change of the process sets, or the refusal.
 pub(crate) fn defined_by(answer: Result<Reply, Refusal>) -> Result<u64, Refusal>
     requires { IfOk answer (λ r. IsDefined (reply_as r)) }
     ensures { SameReplies ModelReply.defined reply_as result answer }
@@ -57,7 +57,7 @@ pub(crate) fn defined_by(answer: Result<Reply, Refusal>) -> Result<u64, Refusal>
     }
 }
 
-/// What a process that leaves a fence is told. Or the refusal.
+/// Returns the release of a process that leaves a fence, or the refusal.
 pub(crate) fn release_by(answer: Result<Reply, Refusal>) -> Result<Release, Refusal>
     requires { IfOk answer (λ r. IsRelease (reply_as r)) }
     ensures { SameReplies release_reply reply_as result answer }
@@ -71,7 +71,7 @@ pub(crate) fn release_by(answer: Result<Reply, Refusal>) -> Result<Release, Refu
     }
 }
 
-/// What a process that asks for a key is told. Or the refusal.
+/// Returns the answer to a process that asks for a key, or the refusal.
 pub(crate) fn asked_by(answer: Result<Reply, Refusal>) -> Result<Asked, Refusal>
     requires { IfOk answer (λ r. IsAsked (reply_as r)) }
     ensures { SameReplies asked_reply reply_as result answer }
@@ -85,7 +85,7 @@ pub(crate) fn asked_by(answer: Result<Reply, Refusal>) -> Result<Asked, Refusal>
     }
 }
 
-/// What a process that takes an answer is told. Or the refusal.
+/// Returns the answer to a process that takes its answer, or the refusal.
 pub(crate) fn taking_by(answer: Result<Reply, Refusal>) -> Result<Taking, Refusal>
     requires { IfOk answer (λ r. IsTaking (reply_as r)) }
     ensures { SameReplies taking_reply reply_as result answer }
@@ -99,7 +99,7 @@ pub(crate) fn taking_by(answer: Result<Reply, Refusal>) -> Result<Taking, Refusa
     }
 }
 
-/// What became of a frame. Or the refusal.
+/// Returns the result of a frame's delivery, or the refusal.
 pub(crate) fn delivery_by(answer: Result<Reply, Refusal>) -> Result<Delivery, Refusal>
     requires { IfOk answer (λ r. IsDelivery (reply_as r)) }
     ensures { SameReplies delivery_reply reply_as result answer }
@@ -112,7 +112,7 @@ pub(crate) fn delivery_by(answer: Result<Reply, Refusal>) -> Result<Delivery, Re
     }
 }
 
-/// That it is done. Or the refusal.
+/// Returns that the nudge is done, or the refusal.
 pub(crate) fn nudged_by(answer: Result<Reply, Refusal>) -> Result<(), Refusal>
     requires { IfOk answer (λ r. IsDone (reply_as r)) }
     ensures { SameReplies (λ _. ModelReply.done) reply_as result answer }

@@ -1,4 +1,4 @@
-//! What lies under the lock of a desk.
+//! The state under the lock of a desk.
 ghost use Rattle.std.specs.Prelude.{◌≡◌, ◌⊎◌, ◌+◌, ◌==◌, ◌∷◌, ◌++◌, [], not, true, false, is_none, length, map, drop, IfOk, IfErr, IfSome, IsOkUnless, IsSome, OnErr, OnOk, Some, None, Ok, Err};
 ghost use Rattle.std.specs.Option.{option_map};
 ghost use mathlib.Core.List.{IsPrefix};
@@ -36,23 +36,23 @@ use std::sync::Wait;
 
 /// The parts of a state.
 pub struct Parts {
-    /// The node; none where the desk is closed.
+    /// The node, or `None` if the desk is closed.
     pub node: Option<Server>,
-    /// What happened at the node.
+    /// The events at the node.
     pub journal: Journal,
-    /// The journal as a list, of which clients know prefixes.
+    /// The journal as a list; each client knows a prefix of it.
     pub list: Appender<Event>,
-    /// What the node did at each event of the journal.
+    /// The step of the node at each event of the journal.
     pub steps: Vec<Step>,
-    /// The frames that were not taken yet.
+    /// The frames that are not taken yet.
     pub outbox: VecDeque<Sent>,
-    /// How many frames were taken.
+    /// The number of taken frames.
     pub taken: u64,
-    /// Who publishes what the node joins.
+    /// The publisher of the pieces that the node joins.
     pub publisher: Publisher,
     /// The viewers that no client has yet.
     pub viewers: Vec<Viewer>,
-    /// The node as it was when the desk was closed.
+    /// The node at the time when the desk was closed.
     pub last: Option<Server>,
 }
 
@@ -76,7 +76,7 @@ impl Model for State {
     ghost invariant = { λ s. IsStateKept s.parts.value };
 }
 
-/// All frames of the outbox, which has none then.
+/// Takes all frames out of the outbox, which is empty then.
 fn take_all_frames(outbox: &mut VecDeque<Sent>, alloc: Global) -> VecDeque<Sent>
     ensures frames { result.items ≡ outbox.old.items }
     ensures rest { outbox.new.items ≡ [] }
@@ -84,7 +84,7 @@ fn take_all_frames(outbox: &mut VecDeque<Sent>, alloc: Global) -> VecDeque<Sent>
     mem::replace(outbox, VecDeque::new(alloc))
 }
 
-/// The dump of a store.
+/// Returns the dump of a store.
 fn dump_of(alloc: Global, store: &Store) -> Result<Vec<u8>, AllocError>
     ensures { IfOk result (λ text. text.items ≡ dump store.now) }
 {
@@ -95,7 +95,7 @@ fn dump_of(alloc: Global, store: &Store) -> Result<Vec<u8>, AllocError>
     }
 }
 
-/// Ends the parts: the journal, with evidence of it where there is a node, or was one when the desk was closed.
+/// Ends the parts, and returns the journal. It has evidence if there is a node, or was one when the desk was closed.
 fn record_of<R: Wait>(parts: Parts, rt: &R) -> Record
     requires { IsStateKept parts }
     ensures { result ≡ parts.journal }
@@ -119,8 +119,8 @@ fn record_of<R: Wait>(parts: Parts, rt: &R) -> Record
 }
 
 impl State {
-    /// Opens a new node of the group, of that index, where nobody has called yet. A node has at most 65,536 processes at home, as many
-    /// as a publisher may have viewers. Errors: `NoMemory`.
+    /// Opens a new node of the group, of that index, without calls so far. A node has at most 65,536 processes at home, as many as a
+    /// publisher may have viewers. Errors: `NoMemory`.
     pub fn new<R: Wait>(rt: &R, id: NodeId, registry: Registry) -> Result<State, Refusal>
         requires { is_node registry id ≡ true }
         ensures node { IfOk result (λ s. s.node ≡ Some (new_server registry id)) }
@@ -158,9 +158,9 @@ impl State {
         }
     }
 
-    /// Does the act, writes it into the journal with its answer, and publishes what it joined. What somebody knows of the journal is
-    /// a prefix of it. Closed where the node was given up. NoMemory before the act changes nothing; after it the node is given up,
-    /// and journal and published store stand.
+    /// Performs the act, writes it into the journal with its answer, and publishes the joined pieces. Each client's knowledge of the
+    /// journal is a prefix of it. Errors: `Closed` if the node was given up; `NoMemory`. A failed allocation before the act changes
+    /// nothing. After one that fails later, the node is given up, and journal and published store stay.
     fn happen<R: Wait>(
         &mut self,
         rt: &R,
@@ -200,7 +200,7 @@ impl State {
         )
     }
 
-    /// The same, for who keeps no transcript: its answer alone.
+    /// Performs the act as `happen` does, for a caller without a transcript: it returns only the answer.
     pub(crate) fn perform<R: Wait>(&mut self, rt: &R, act: Act) -> Result<Reply, Refusal>
         ensures replied { IsEvent result → WasReplied self.old.journal.registry self.old.journal.node (act_of act) (reply_in reply_as result) }
         ensures event { IsEvent result → happened_in self.new.journal ≡ happened_in self.old.journal ++ happened act result ∷ [] }
@@ -220,7 +220,7 @@ impl State {
         }
     }
 
-    /// The frames arrive, one after the other. Where an act fails as in `act`, those before it are delivered, and those after it are
+    /// Delivers the frames, one after another. If one fails as in `act`, the frames before it are delivered, and the frames after it are
     /// not.
     pub fn deliver_all<R: Wait>(&mut self, rt: &R, frames: Vec<Frame>) -> Result<(), Refusal>
         ensures ok { OnOk result (HaveCome frames.items (happened_in self.old.journal) (happened_in self.new.journal)) }
@@ -236,10 +236,10 @@ impl State {
         Ok(())
     }
 
-    /// Does the act, writes a copy of it into the journal with its answer, and publishes what it joined. Errors: those of the node's
-    /// call (`BadParam`, `NotFound`, `OutsideScope`, `UnknownNamespace`, `NotMine`, `Busy`, `Terminated`, `NotAParticipant`, `TooMany`,
-    /// `Exists`); `Closed` where the node was given up; `NoMemory`, which before the act changes nothing. After the act the node is
-    /// given up then, and journal and published store stand.
+    /// Performs the act, writes a copy of it into the journal with its answer, and publishes the joined pieces. Errors: the refusals of
+    /// the node's call (`BadParam`, `NotFound`, `OutsideScope`, `UnknownNamespace`, `NotMine`, `Busy`, `Terminated`, `NotAParticipant`,
+    /// `TooMany`, `Exists`); `Closed` if the node was given up; `NoMemory`. A failed allocation before the act changes nothing. After one
+    /// that fails later, the node is given up, and journal and published store stay.
     pub fn act<R: Wait>(&mut self, rt: &R, act: &Act) -> Result<Reply, Refusal>
         ensures event { IsEvent result → happened_in self.new.journal ≡ happened_in self.old.journal ++ happened act.now result ∷ [] }
         ensures step { IsEvent result → IfSome self.old.node (λ s. Steps s act.now result self.new.node) }
@@ -257,7 +257,7 @@ impl State {
         self.perform(rt, copy)
     }
 
-    /// Returns whether the process made an event of the journal past those that are known.
+    /// Returns whether the process made an event of the journal after the known ones.
     fn made_more(&self, proc: &Proc, known: &History<Event>) -> bool
         ensures { result ≡ false → AreOfOthers proc.now (map happening_of (drop (length known.now.log) self.now.journal.events.items)) }
     {
@@ -267,8 +267,8 @@ impl State {
         }
     }
 
-    /// Returns whether the process did something that its client does not know, or the client's viewer saw something that is not
-    /// published here. Neither is so in any run: a process has one client, and the publisher shows nothing else.
+    /// Returns whether the process did something that its client does not know, or the client's viewer saw something that is not published
+    /// here. No run has such a state: a process has one client, and the publisher shows only its publications.
     fn is_apart(&self, proc: &Proc, viewer: &Viewer, known: &History<Event>) -> bool
         requires { viewer.now.book ≡ self.now.publisher.book }
         ensures others { result ≡ false → AreOfOthers proc.now (map happening_of (drop (length known.now.log) self.now.journal.events.items)) }
@@ -280,10 +280,11 @@ impl State {
         true
     }
 
-    /// Does the act for the client of the process, as `act`, and tells it what was published and all of the journal: that begins
-    /// with what the client knew, goes on with what others did, and ends with this act. What the viewer saw before was published
-    /// before, and then it is told of all that is published. Closed where the process did more than the client knows, or the viewer
-    /// saw more than was published.
+    /// Performs the act for the client of the process, as `act` does, and gives the client the publications and the whole journal. The
+    /// journal begins with the events that the client knew, continues with the acts of others, and ends with this act. The viewer's
+    /// earlier sight was published before, and then the viewer learns all publications. The node's refusal of the act is part of the
+    /// answer. Errors: `Closed` if the node was given up, if the process did more than the client knows, or if the viewer saw more than
+    /// was published; `NoMemory`, as in `act`.
     pub fn act_for<R: Wait>(
         &mut self,
         rt: &R,
@@ -320,7 +321,7 @@ impl State {
         Ok(twice)
     }
 
-    /// What was published so far.
+    /// Returns the publications so far.
     pub fn tell(&self) -> Told
         ensures told { result ≡ record { book = self.now.publisher.book; log = self.now.publisher.log } }
         ensures journal { IsJournal self.now.journal }
@@ -329,22 +330,22 @@ impl State {
         self.parts.publisher.tell()
     }
 
-    /// Returns the journal, as all that is known of it.
+    /// Returns the journal as a list, with all its events.
     pub fn tell_list(&self) -> History<Event>
         ensures { result ≡ self.now.list }
     {
         self.parts.list.tell()
     }
 
-    /// Whether the node was given up.
+    /// Returns whether the node was given up.
     pub fn is_closed(&self) -> bool
         ensures { result ≡ is_none self.now.node }
     {
         self.parts.node.is_none()
     }
 
-    /// Judges who calls: a process of the group, at home at the node, that has not ended; none where the node was given up. It is no
-    /// event.
+    /// Judges the caller: a process of the group, at home at the node, that has not ended. Returns `None` if the node was given up. It is
+    /// no event.
     pub fn check_caller(&self, proc: &Proc) -> Option<Result<(), Refusal>>
         ensures judged { result ≡ option_map (λ s. first_of (caller_cause s.jobs s.id s.holding proc.now) tt) self.now.node }
         ensures home { result ≡ Some (Ok tt) → IsOwn self.now.journal.registry self.now.journal.node proc.now }
@@ -355,7 +356,7 @@ impl State {
         }
     }
 
-    /// How the process stands; none where the node was given up. It is no event.
+    /// Returns the status of the process, or `None` if the node was given up. It is no event.
     pub fn status(&self, proc: &Proc) -> Option<Status>
         ensures { option_map status_in result ≡ option_map (λ s. status_of s.jobs s.id s.holding proc.now) self.now.node }
     {
@@ -365,7 +366,7 @@ impl State {
         }
     }
 
-    /// What other nodes may know of all processes, as text; none where the node was given up.
+    /// Returns the knowledge of all processes that other nodes may have, as text, or `None` if the node was given up.
     pub fn far_dump(&self) -> Result<Option<Vec<u8>>, AllocError>
         ensures text { IfOk result (λ text. option_map (λ t. t.items) text ≡ option_map (λ s. dump s.holding.far) self.now.node) }
         ensures told { IfOk result (λ text. IfSome text (λ t. WasFarDump self.now.journal.registry self.now.journal.node t.items)) }
@@ -379,15 +380,15 @@ impl State {
         }
     }
 
-    /// Whether there are frames to be taken.
+    /// Returns whether there are frames to be taken.
     pub fn has_frames(&self) -> bool
         ensures { result ≡ not (length self.now.outbox.items == 0) }
     {
         !self.parts.outbox.is_empty()
     }
 
-    /// The frames that were sent and not taken. Refused as Closed where the node was given up, and as TooMany where more than
-    /// 2^64 - 1 frames would be taken in all; then none is taken.
+    /// Takes the frames that were sent and not taken. Errors: `Closed` if the node was given up; `TooMany` if more than 2^64 - 1 frames
+    /// would be taken in all, and then no frame is taken.
     pub fn take_frames(&mut self) -> Result<VecDeque<Sent>, Refusal>
         ensures frames { IfOk result (λ frames. frames.items ≡ self.old.outbox.items) }
         ensures sent { IfOk result (λ frames. WasSent self.old.journal.registry self.old.journal.node frames.items) }
@@ -411,7 +412,7 @@ impl State {
         Ok(take_all_frames(&mut parts.outbox, parts.journal.registry.allocator()))
     }
 
-    /// Gives up the node, which is kept as it was for the record. Journal and published store stand.
+    /// Gives up the node, which is kept for the record in its last state. Journal and published store stay.
     pub fn close(&mut self)
         ensures node { self.new.node ≡ None }
         ensures last { IsSome self.old.node → self.new.last ≡ self.old.node }
@@ -431,7 +432,7 @@ impl State {
         parts.last = parts.node.take();
     }
 
-    /// A viewer for one of the processes at home at the node, as long as one is left: there are as many as these processes.
+    /// Takes a viewer for one of the processes at home at the node, if one is left: there are as many as these processes.
     pub fn take_viewer(&mut self) -> Option<Viewer>
         ensures book { IfSome result (λ v. v.book ≡ self.old.publisher.book) }
         ensures node { self.new.node ≡ self.old.node }
@@ -440,7 +441,7 @@ impl State {
         self.parts.viewers.pop()
     }
 
-    /// Ends the state: its journal, with what is known of it.
+    /// Ends the state, and returns its journal, with its evidence.
     pub fn into_record<R: Wait>(self, rt: &R) -> Record
         ensures journal { result ≡ self.journal }
         ensures replay { IsJournal result }

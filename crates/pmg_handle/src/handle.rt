@@ -1,4 +1,4 @@
-//! The handle that C keeps, which is `struct { void *at; bool full; }` there and begins with zeros.
+//! The handle that C keeps. In C it is `struct { void *at; bool full; }`, and it begins with zeros.
 ghost use Rattle.std.specs.Prelude.{◌≡◌, is_some, IsNone, Some, None, box_value, if◌then◌else◌, option_map};
 ghost use Rattle.pmg_daemon.specs.declared.codes.TheConstants.{DONE, WRONG_HANDLE};
 
@@ -18,7 +18,7 @@ pub struct Handle {
 }
 
 impl Handle {
-    /// A handle with no node.
+    /// Makes a handle without a node.
     fn empty(alloc: Global) -> Handle
         ensures { result.place.value ≡ None }
     {
@@ -29,7 +29,7 @@ impl Handle {
         }
     }
 
-    /// A handle with that node.
+    /// Makes a handle with that node.
     fn with(node: Box<Daemon>, alloc: Global) -> Handle
         ensures { result.place.value ≡ Some node.value }
     {
@@ -40,7 +40,7 @@ impl Handle {
         }
     }
 
-    /// Takes the node out, and then the handle has none; none where it had none, and then it is as it was.
+    /// Takes the node out, and then the handle has no node. Returns `None` if it had no node, and then it is unchanged.
     pub fn take(&mut self) -> Option<Box<Daemon>>
         ensures taken { option_map box_value result ≡ self.old.place.value }
         ensures left { self.new.place.value ≡ None }
@@ -58,7 +58,7 @@ impl Handle {
         Some(place.into_loose().into_box())
     }
 
-    /// Puts a node into a handle that has none.
+    /// Puts a node into an empty handle.
     pub fn put(&mut self, node: Box<Daemon>)
         requires { self.old.place.value ≡ None }
         ensures { self.new.place.value ≡ Some node.value }
@@ -72,7 +72,7 @@ impl Handle {
         place.discard();
     }
 
-    /// Closes the node that it holds: done, and then it holds none; or it held none before.
+    /// Closes its node: done, and then the handle is empty; or it was empty before.
     pub fn close(&mut self) -> u32
         ensures code { result ≡ (if is_some self.old.place.value then DONE else WRONG_HANDLE) }
         ensures closed { IsNone self.new.place.value }

@@ -1,4 +1,4 @@
-//! The handle by which C holds a node.
+//! The handle with which C holds a node.
 #![tactic(auto)]
 
 mod handle;

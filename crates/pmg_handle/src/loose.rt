@@ -1,11 +1,11 @@
-//! A box taken apart into its pointer and its allocator, for code that keeps the pointer where no box may stand.
+//! A box taken apart into its pointer and its allocator, for code that keeps the pointer where a box is not allowed.
 ghost use Rattle.std.specs.Prelude.{◌≡◌};
 ghost use Rattle.std_alloc.specs.Box.Ownership.{box_owns};
 
 use std::alloc::Allocator;
 use std::marker::Model;
 
-/// A box as its pointer. It owns what the box owned: the value, and the right to free its block.
+/// A box as its pointer. It owns the box's contents: the value, and the right to free its block.
 pub struct Loose<T, A: Allocator> {
     pub at: *mut T,
     pub alloc: A,
@@ -17,7 +17,7 @@ impl<T, A: Allocator> Model for Loose<T, A> {
 }
 
 impl<T: Drop, A: Allocator> Loose<T, A> {
-    /// The box, taken apart.
+    /// Takes the box apart.
     pub fn of(value: Box<T, A>) -> Loose<T, A>
         ensures { result.value ≡ value.value }
     {
@@ -25,7 +25,7 @@ impl<T: Drop, A: Allocator> Loose<T, A> {
         Loose { at, alloc }
     }
 
-    /// The box, made again.
+    /// Makes the box again.
     pub fn into_box(self) -> Box<T, A>
         ensures { result.value ≡ self.value }
     {

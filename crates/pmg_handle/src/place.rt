@@ -1,4 +1,4 @@
-//! Where a node lies that C holds: a pointer.
+//! The place of a node that C holds: a pointer.
 ghost use Rattle.std.specs.Prelude.{◌≡◌, IsSome, Option, Some, None};
 ghost use Rattle.std.specs.Coded.{coded_option};
 ghost use Rattle.pmg_daemon.specs.declared.daemon.Daemon.{Daemon as Held};
@@ -10,8 +10,8 @@ use std::alloc::Global;
 use std::marker::Model;
 use std::ptr::null_mut;
 
-/// A boxed node as its pointer, or none: the pointer owns the node where `value` is one, and nothing where it is none. It is made
-/// and taken apart only here. It has no drop, so that no code can lose one.
+/// An optional boxed node as its pointer: the pointer owns the node if `value` is one, and nothing if `value` is empty. It is made and
+/// taken apart only here. It has no drop, so that no code can lose a node.
 #[repr(C)]
 pub struct Place {
     at: *mut u8,
@@ -27,7 +27,7 @@ impl Model for Place {
 }
 
 impl Place {
-    /// A place with no node: null.
+    /// Makes a place without a node: null.
     pub fn empty(alloc: Global) -> Place
         ensures { result.value ≡ None }
     {
@@ -37,7 +37,7 @@ impl Place {
         }
     }
 
-    /// A place with that node.
+    /// Makes a place with that node.
     pub fn with(loose: Loose<Daemon, Global>) -> Place
         ensures { result.value ≡ Some loose.value }
     {
@@ -48,7 +48,7 @@ impl Place {
         }
     }
 
-    /// The node of a place that has one.
+    /// Returns the node of a place that has one.
     pub fn into_loose(self) -> Loose<Daemon, Global>
         requires { IsSome self.value }
         ensures { self.value ≡ Some result.value }
@@ -60,7 +60,7 @@ impl Place {
         }
     }
 
-    /// Lets go of a place that has none.
+    /// Discards an empty place.
     pub fn discard(self)
         requires { self.value ≡ None }
     {

@@ -1,4 +1,4 @@
--- What is known of a journal by who ran its node.
+-- The evidence for a journal from the server that ran its node.
 use Rattle.std.specs.Prelude.{◌≡◌, List, [], ◌∷◌}
 use Rattle.pmg_node.specs.Servers.{Server, after, sent_by}
 use Rattle.pmg_journal.specs.Calling.{caller_of, free_at}
@@ -6,12 +6,12 @@ use Rattle.pmg_journal.specs.Replays.{Happening, IsReplay, after_all}
 use Rattle.pmg_journal.specs.declared.record.Evidence.{Evidence}
 use Rattle.pmg_journal.specs.declared.record.Step.{Step}
 
--- what the server does at the event: whether who calls is free there, and the frames that it sends
+-- the server's step at the event: whether the caller is free there, and the frames that it sends
 pub record IsStep (s : Server) (e : Happening) (x : Step) : Type 0 where
   pub free : x.is_free ≡ free_at s (caller_of e.act)
   pub sent : x.sent.items ≡ sent_by s e.act
 
--- what the server does at each event, one after the other
+-- the server's step at each event, one after another
 abbrev pub AreSteps : Server → List Happening → List Step → Type 0
 AreSteps s [] [] = Unit {0}
 AreSteps s [] (x ∷ xs) = ⊥

@@ -1,4 +1,4 @@
--- What a client called, with values as their canonical bytes, and what follows from it.
+-- The calls of a client, with values as their canonical bytes, and the state that follows from them.
 use Rattle.std.specs.Prelude.{◌≡◌, ℕ, Bool, true, false, List, [], ◌∷◌, ◌++◌, map, Result, Ok, Err}
 use Rattle.pmg_value.specs.Spelling.{spelling}
 use Rattle.pmg_value.specs.declared.refusal.Refusal.{Refusal}
@@ -13,7 +13,7 @@ use Rattle.pmg_journal.specs.declared.transcript.Call.TheVariants as calls
 use Rattle.pmg_journal.specs.declared.transcript.Called.{Called}
 use Rattle.pmg_journal.specs.declared.transcript.Transcript.{Transcript}
 
--- what is called: a put, a commit, or a request
+-- a call: a put, a commit, or a request
 pub data Calling : Type 0 where
   put : Scope → List ℕ → List ℕ → Calling
   commit : Calling
@@ -34,13 +34,13 @@ pub record Noted : Type 0 where
 abbrev pub noted : Calling → Reply → Noted
 noted call reply = record { call = call; reply = reply }
 
--- what is called, as code names it
+-- the meaning of the code's call
 abbrev pub calling_of : Call → Calling
 calling_of (calls.Put scope key value) = Calling.put scope key (spelling value)
 calling_of calls.Commit = Calling.commit
 calling_of (calls.Request r) = Calling.request (request_of r)
 
--- a call with its reply, as code names it
+-- the meaning of the code's call with its reply
 abbrev pub noted_of : Called → Noted
 noted_of c = noted (calling_of c.call) (reply_in reply_as c.answer)
 
@@ -48,32 +48,32 @@ noted_of c = noted (calling_of c.call) (reply_in reply_as c.answer)
 abbrev pub noted_in : Transcript → List Noted
 noted_in t = map noted_of t.calls.items
 
--- ---- what the client put
+-- ---- the client's puts
 
--- the cache after a put that was replied so: with it, where it is done
+-- the cache after a put with that reply: the put is added if it is done
 abbrev pub put_by : Cached → Scope → List ℕ → List ℕ → Reply → Cached
 put_by c scope key value Reply.done = with_put c scope key value
 put_by c scope key value _ = c
 
--- the cache after a commit that was replied so: all of it is sealed, where the commit was made
+-- the cache after a commit with that reply: all of it is sealed if the commit was made
 abbrev pub commit_by : Cached → Reply → Cached
 commit_by c (Reply.committed number) = after_commit c
 commit_by c _ = c
 
--- after a put that is done, and after a commit
+-- the cache after a call: after a put that is done, and after a commit
 abbrev pub cached_by : Cached → Calling → Reply → Cached
 cached_by c (Calling.put scope key value) reply = put_by c scope key value reply
 cached_by c Calling.commit reply = commit_by c reply
 cached_by c (Calling.request r) reply = c
 
--- what it put, of which these calls were answered since
+-- the client's puts after these later calls with their answers
 abbrev pub cached_after : Cached → List Noted → Cached
 cached_after c [] = c
 cached_after c (n ∷ ns) = cached_after (cached_by c n.call n.reply) ns
 
--- ---- whether a call of it waits
+-- ---- whether a call waits
 
--- A fence is entered, or a get parks; until the process is released, or the get is answered.
+-- A call waits from the entry of a fence, or from a get that parks, until the process is released, or the get is answered.
 abbrev pub waits_reply : Bool → Reply → Bool
 waits_reply w (Reply.entered instance) = true
 waits_reply w Reply.parked = true
@@ -83,7 +83,7 @@ waits_reply w (Reply.refused refusals.NotFound) = false
 waits_reply w (Reply.refused refusals.OutsideScope) = false
 waits_reply w _ = w
 
--- a put and a commit change nothing of it
+-- whether a call waits after this one; a put and a commit change nothing
 abbrev pub waits_by : Bool → Calling → Reply → Bool
 waits_by w (Calling.put scope key value) reply = w
 waits_by w Calling.commit reply = w
@@ -94,20 +94,20 @@ abbrev pub waits_after : Bool → List Noted → Bool
 waits_after w [] = w
 waits_after w (n ∷ ns) = waits_after (waits_by w n.call n.reply) ns
 
--- ---- how a call is noted
+-- ---- the notes of calls
 
--- Where a put has a cause to be refused: as its cache tells, and where a call waits.
+-- The causes to refuse a put: the causes of its cache, and a call that waits.
 abbrev pub put_cause_of : Bool → Cached → Scope → List ℕ → List ℕ → Refusal → Bool
 put_cause_of waits c scope key value refusals.Busy = waits
 put_cause_of waits c scope key value e = put_cause c scope key value e
 
--- There is one call more, with its reply. Where an allocation failed it may be missing.
+-- There is one more call, with its reply. If an allocation failed, it may be missing.
 abbrev pub NotesCall : List Noted → List Noted → Calling → {X : Type 0} → (X → Reply) → Result X Refusal → Type 0
 NotesCall old new call view (Ok x) = new ≡ old ++ noted call (view x) ∷ []
 NotesCall old new call view (Err refusals.NoMemory) = new ≡ old
 NotesCall old new call view (Err e) = new ≡ old ++ noted call (Reply.refused e) ∷ []
 
--- the answer is the one that is due, unless an allocation failed
+-- the answer is the due one, unless an allocation failed
 abbrev pub Answers : {X : Type 0} → Result X Refusal → Result X Refusal → Type 0
 Answers (Err refusals.NoMemory) due = Unit {0}
 Answers answer due = due ≡ answer

@@ -1,4 +1,4 @@
-//! What happened at a node, one event after the other.
+//! The events at a node, one after another.
 ghost use Rattle.std.specs.Prelude.{◌≡◌, ◌<◌, ◌∷◌, ◌++◌, [], map, IfOk, OnOk, vec_capacity, vec_len};
 ghost use Rattle.std.specs.List.{list_any};
 ghost use Rattle.pmg_node.specs.Acting.{reply_as};
@@ -12,11 +12,11 @@ use pmg_node::{Act, Reply};
 use pmg_value::{NodeId, Proc, Refusal};
 use std::alloc::{AllocError, Global};
 
-/// What was asked of a node, and what it answered.
+/// A request to a node, and its answer.
 pub struct Event {
-    /// What was asked.
+    /// The act that the node was asked for.
     pub act: Act,
-    /// What was answered.
+    /// The answer of the node.
     pub answer: Result<Reply, Refusal>,
 }
 
@@ -27,7 +27,7 @@ impl Drop for Event {
 }
 
 impl Event {
-    /// Returns a copy, which tells the same.
+    /// Returns an equal copy.
     pub fn copy(&self) -> Result<Event, AllocError>
         ensures { IfOk result (λ copy. happening_of copy ≡ happening_of self.now) }
     {
@@ -36,7 +36,7 @@ impl Event {
         Ok(Event { act, answer })
     }
 
-    /// The answer.
+    /// Returns the answer.
     pub fn into_answer(self) -> Result<Reply, Refusal>
         ensures { result ≡ self.answer }
     {
@@ -45,18 +45,18 @@ impl Event {
     }
 }
 
-/// What happened at a node, from its start on.
+/// The events at a node, from its start on.
 #[derive(Drop)]
 pub struct Journal {
     /// The node's index.
     pub node: NodeId,
     /// Its group.
     pub registry: Registry,
-    /// What happened, in its order.
+    /// The events, in their order.
     pub events: Vec<Event>,
 }
 
-/// Returns a copy, the same answer.
+/// Returns an equal copy of the answer.
 pub fn copy_of_answer(answer: &Result<Reply, Refusal>) -> Result<Result<Reply, Refusal>, AllocError>
     ensures { IfOk result (λ copy. reply_in reply_as copy ≡ reply_in reply_as answer.now) }
 {
@@ -80,7 +80,7 @@ pub fn has_event_by(events: &[Event], proc: &Proc) -> bool
     false
 }
 
-/// Returns copies of the events, which tell the same.
+/// Returns equal copies of the events.
 fn copies_of(alloc: Global, events: &[Event]) -> Result<Vec<Event>, AllocError>
     ensures { IfOk result (λ copies. map happening_of copies.items ≡ map happening_of events.now) }
 {
@@ -92,7 +92,7 @@ fn copies_of(alloc: Global, events: &[Event]) -> Result<Vec<Event>, AllocError>
 }
 
 impl Journal {
-    /// Returns a copy, which tells the same.
+    /// Returns an equal copy.
     pub fn copy(&self) -> Result<Journal, AllocError>
         ensures node { IfOk result (λ copy. copy.node ≡ self.now.node) }
         ensures registry { IfOk result (λ copy. copy.registry ≡ self.now.registry) }
@@ -107,7 +107,7 @@ impl Journal {
         })
     }
 
-    /// Makes a place for one event more.
+    /// Makes a place for another event.
     pub fn reserve(&mut self) -> Result<(), AllocError>
         ensures place { OnOk result (vec_len self.new.events < vec_capacity self.new.events) }
         ensures node { self.new.node ≡ self.old.node }

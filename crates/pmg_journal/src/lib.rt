@@ -1,4 +1,4 @@
-//! What happened at a node, what a client called, and what follows from it.
+//! The events at a node, the calls of a client, and the state that follows from them.
 #![tactic(auto)]
 
 mod journal;

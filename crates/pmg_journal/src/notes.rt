@@ -1,4 +1,4 @@
-//! What a client called, and what follows from it.
+//! The calls of a client, and the state that follows from them.
 ghost use Rattle.std.specs.Prelude.{◌≡◌, ◌<◌, ◌∷◌, ◌++◌, ◌||◌, [], false, not, IfOk, OnOk, OnErr, vec_capacity, vec_len, Err, IfErr};
 ghost use Rattle.std.specs.FinMap as finite;
 ghost use Rattle.std.specs.Option.{option_map};
@@ -21,16 +21,16 @@ use pmg_value::{Key, Refusal, Value};
 use std::alloc::{AllocError, Global};
 use std::marker::Model;
 
-/// The answer to an act, for who asked and for its transcript.
+/// The answer to an act, for the caller and for its transcript.
 #[derive(Drop)]
 pub struct AnswerCopies {
-    /// For who asked.
+    /// For the caller.
     pub told: Result<Reply, Refusal>,
     /// For its transcript.
     pub kept: Result<Reply, Refusal>,
 }
 
-/// A client's transcript, with what follows from it: what the client put, and whether a call of it waits.
+/// A client's transcript, with the state that follows from it: the client's puts, and whether a call of it waits.
 pub struct ClientLog {
     transcript: Transcript,
     cache: Cache,
@@ -63,7 +63,7 @@ impl Model for ClientLog {
     ghost invariant = { λ n. (n.cache ≡ cached_after no_puts (noted_in n.transcript)) × (n.in_call ≡ waits_after false (noted_in n.transcript)) };
 }
 
-/// What was put is sealed where the call is a commit that is done.
+/// Seals the puts if the call is a commit that is done.
 fn seal_by(cache: &mut Cache, call: &Call, answer: &Result<Reply, Refusal>)
     requires { is_put (calling_of call.now) ≡ false }
     ensures { cache.new ≡ cached_by cache.old (calling_of call.now) (reply_in reply_as answer.now) }
@@ -76,7 +76,7 @@ fn seal_by(cache: &mut Cache, call: &Call, answer: &Result<Reply, Refusal>)
     }
 }
 
-/// Whether a call waits after this one, which was answered so.
+/// Returns whether a call waits after this one, with this answer.
 fn waits_by(waits: bool, call: &Call, answer: &Result<Reply, Refusal>) -> bool
     ensures { result ≡ waits_by waits (calling_of call.now) (reply_in reply_as answer.now) }
 {
@@ -91,7 +91,7 @@ fn waits_by(waits: bool, call: &Call, answer: &Result<Reply, Refusal>) -> bool
     }
 }
 
-/// Whether nobody may put so: a key of the standard, or a scope that says nothing.
+/// Returns whether nobody may make such a put: its key belongs to the standard, or its scope reaches no process.
 fn is_bad_put(scope: Scope, key: &Key) -> bool
     ensures { result ≡ (not (reaches scope reach.Own) || is_reserved key.now) }
 {
@@ -119,7 +119,7 @@ fn put_into(
     Err(Refusal::Busy)
 }
 
-/// The put was answered so, for which there is a place. One that an allocation failed is not noted.
+/// Notes the put with its answer, for which there is a place. A put whose allocation failed is not noted.
 fn note_put(transcript: &mut Transcript, call: Call, answer: &Result<(), Refusal>)
     requires { vec_len transcript.old.calls < vec_capacity transcript.old.calls }
     ensures proc { transcript.new.proc ≡ transcript.old.proc }
@@ -134,7 +134,7 @@ fn note_put(transcript: &mut Transcript, call: Call, answer: &Result<(), Refusal
 }
 
 impl ClientLog {
-    /// The transcript, in which nothing is called yet.
+    /// Makes the log of a client from its transcript, which has no calls yet.
     pub fn new(alloc: Global, transcript: Transcript) -> ClientLog
         requires { transcript.calls.items ≡ [] }
         ensures { result ≡ transcript }
@@ -146,35 +146,35 @@ impl ClientLog {
         }
     }
 
-    /// What was called so far.
+    /// Returns the calls so far.
     pub fn transcript(&self) -> &Transcript
         ensures { result.now ≡ self.now }
     {
         &self.transcript
     }
 
-    /// Whether a call waits.
+    /// Returns whether a call waits.
     pub fn in_call(&self) -> bool
         ensures { result ≡ waits_after false (noted_in self.now) }
     {
         self.in_call
     }
 
-    /// What the client itself reads under the key.
+    /// Returns the value that the client itself reads under the key.
     pub fn own(&self, key: &Key) -> Option<&Value>
         ensures { option_map (λ v. spelling v.now) result ≡ finite.get (cached_after no_puts (noted_in self.now)).own key.now }
     {
         self.cache.own(key)
     }
 
-    /// What no commit sealed.
+    /// Returns the puts that no commit sealed.
     pub fn unsealed(&self) -> Result<Batch, AllocError>
         ensures { IfOk result (λ b. b ≡ unsealed_of (cached_after no_puts (noted_in self.now))) }
     {
         self.cache.unsealed()
     }
 
-    /// The transcript, once the client has ended.
+    /// Returns the transcript, once the client has ended.
     pub fn into_transcript(self) -> Transcript
         ensures { result ≡ self }
     {
@@ -186,7 +186,7 @@ impl ClientLog {
         transcript
     }
 
-    /// Makes a place for one call more.
+    /// Makes a place for another call.
     pub fn reserve(&mut self) -> Result<(), AllocError>
         ensures place { OnOk result (vec_len self.new.calls < vec_capacity self.new.calls) }
         ensures proc { self.new.proc ≡ self.old.proc }
@@ -195,7 +195,7 @@ impl ClientLog {
         self.transcript.calls.reserve(1)
     }
 
-    /// A call other than a put was answered, for which there is a place.
+    /// Notes a call other than a put with its answer, for which there is a place.
     pub fn note(&mut self, call: Call, answer: Result<Reply, Refusal>)
         requires place { vec_len self.old.calls < vec_capacity self.old.calls }
         requires kind { is_put (calling_of call) ≡ false }
@@ -208,7 +208,7 @@ impl ClientLog {
         self.transcript.calls.push_reserved(Called { call, answer });
     }
 
-    /// A call other than a put has ended, for which there is a place: its answer. One that an allocation failed is not noted.
+    /// Ends a call other than a put, for which there is a place, and returns its answer. A call whose allocation failed is not noted.
     pub fn end(
         &mut self,
         call: Call,
@@ -236,7 +236,7 @@ impl ClientLog {
         }
     }
 
-    /// A call other than a put was answered without the node, by a value: it is noted, unless an allocation failed.
+    /// Notes a call other than a put that was answered without the node, by a value, unless an allocation failed.
     pub fn keep(&mut self, call: Call, answer: &Result<Value, Refusal>) -> Result<(), AllocError>
         requires { is_put (calling_of call) ≡ false }
         ensures proc { self.new.proc ≡ self.old.proc }
@@ -253,7 +253,7 @@ impl ClientLog {
         Ok(())
     }
 
-    /// The client puts the value under the key.
+    /// Puts the value under the key for the client.
     pub fn put(&mut self, scope: Scope, key: Key, value: Value) -> Result<(), Refusal>
         ensures proc { self.new.proc ≡ self.old.proc }
         ensures answer { Answers result (first_of (put_cause_of (waits_after false (noted_in self.old)) (cached_after no_puts (noted_in self.old)) scope key (spelling value)) tt) }

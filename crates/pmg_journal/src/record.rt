@@ -1,4 +1,4 @@
-//! The journal of a node, with what is known of it by who ran the node.
+//! The journal of a node, with the evidence of the server that ran the node.
 ghost use Rattle.std.specs.Prelude.{◌≡◌, [], map, IfSome};
 ghost use Rattle.std.specs.Option.{option_map};
 ghost use Rattle.pmg_node.specs.Acting.{act_of};
@@ -15,7 +15,7 @@ use std::collections::VecDeque;
 use std::marker::Model;
 use std::mem;
 
-/// What a node did at an event, beside its answer.
+/// The effects of an event at a node, beside its answer.
 pub struct Step {
     /// Whether the process that called, if one did, was in no call before, and had not ended.
     pub is_free: bool,
@@ -30,7 +30,7 @@ impl Drop for Step {
 }
 
 impl Step {
-    /// The frames.
+    /// Returns the frames.
     pub fn into_sent(self) -> VecDeque<Sent>
         ensures { result ≡ self.sent }
     {
@@ -39,16 +39,16 @@ impl Step {
     }
 }
 
-/// What is known of a journal by who ran its node: it is a replay, which need not be done again.
+/// The evidence for a journal from the server that ran its node: the journal is a replay, and need not be replayed again.
 #[derive(Drop)]
 pub struct Evidence {
-    /// What the node did at each event, in their order.
+    /// The effects of each event at the node, in their order.
     pub steps: Vec<Step>,
     /// The node after all of them.
     pub node: Server,
 }
 
-/// The journal of a node and, where it was kept by who ran the node, evidence of it.
+/// The journal of a node and, if the server that ran the node kept it, its evidence.
 #[derive(Drop)]
 pub struct Record {
     journal: Journal,
@@ -71,7 +71,7 @@ impl Model for Record {
     ghost invariant = { λ r. IfSome r.evidence (IsEvidence (start_of r.journal) (happened_in r.journal)) };
 }
 
-/// The process that calls, if one does.
+/// Returns the process that calls, if one does.
 pub fn caller_of(act: &Act) -> Option<&Proc>
     ensures { option_map (λ p. p.now) result ≡ caller_of (act_of act.now) }
 {
@@ -91,7 +91,7 @@ pub fn caller_of(act: &Act) -> Option<&Proc>
     }
 }
 
-/// Whether the process that calls, if one does, is in no call at the node, and has not ended.
+/// Returns whether the process that calls, if one does, is in no call at the node, and has not ended.
 pub fn is_free_at(node: &Server, act: &Act) -> bool
     ensures { result ≡ free_at node.now (caller_of (act_of act.now)) }
 {
@@ -102,7 +102,7 @@ pub fn is_free_at(node: &Server, act: &Act) -> bool
 }
 
 impl Record {
-    /// A journal of which nothing else is known, from wherever it comes.
+    /// Makes a record of a journal from any source, without evidence.
     pub fn new(journal: Journal) -> Record
         ensures { result ≡ journal }
     {
@@ -112,7 +112,7 @@ impl Record {
         }
     }
 
-    /// A journal with the evidence of who ran its node.
+    /// Makes a record of a journal with the evidence of the server that ran its node.
     pub fn with_evidence(journal: Journal, evidence: Evidence) -> Record
         requires { IsEvidence (start_of journal) (happened_in journal) evidence }
         ensures { result ≡ journal }
@@ -123,21 +123,21 @@ impl Record {
         }
     }
 
-    /// The node's index.
+    /// Returns the node's index.
     pub fn node(&self) -> NodeId
         ensures { result ≡ self.now.node }
     {
         self.journal.node
     }
 
-    /// Its group.
+    /// Returns its group.
     pub fn registry(&self) -> &Registry
         ensures { result.now ≡ self.now.registry }
     {
         &self.journal.registry
     }
 
-    /// The journal.
+    /// Returns the journal.
     pub fn into_journal(self) -> Journal
         ensures { result ≡ self }
     {
@@ -148,7 +148,7 @@ impl Record {
         journal
     }
 
-    /// The events, which are taken out of the journal, and the evidence, if there is some.
+    /// Takes the events out of the journal, and returns them with the evidence, if there is any.
     pub fn take_events(&mut self) -> (Vec<Event>, Option<Evidence>)
         ensures events { map happening_of result.0.items ≡ happened_in self.old }
         ensures evidence { IfSome result.1 (IsEvidence (start_of self.old) (happened_in self.old)) }

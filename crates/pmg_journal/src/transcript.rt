@@ -1,4 +1,4 @@
-//! What a client called, one call after the other.
+//! The calls of a client, one after another.
 ghost use Rattle.std.specs.Prelude.{◌≡◌, IfOk, map};
 ghost use Rattle.pmg_journal.specs.Transcripts.{calling_of, noted_in, noted_of};
 
@@ -8,13 +8,14 @@ use pmg_scope::Scope;
 use pmg_value::{Key, Proc, Refusal, Value};
 use std::alloc::{AllocError, Global};
 
-/// What a client called.
+/// A call of a client.
 pub enum Call {
-    /// It puts the value under the key, to be seen as the scope says (PMIx Standard 5.0, PMIx_Put).
+    /// It puts the value under the key, visible as the scope says (PMIx Standard 5.0, PMIx_Put).
     Put(Scope, Key, Value),
-    /// It commits what it put (PMIx Standard 5.0, PMIx_Commit).
+    /// It commits its puts (PMIx Standard 5.0, PMIx_Commit).
     Commit,
-    /// It asks this. A key of its own, that is none of the standard's, its cache answers; anything else its node.
+    /// It makes this request. Its cache answers a get of its own key, unless the key belongs to the standard; its node answers any other
+    /// request.
     Request(Request),
 }
 
@@ -29,7 +30,7 @@ impl Drop for Call {
 }
 
 impl Call {
-    /// Returns a copy, the same call.
+    /// Returns an equal copy.
     pub fn copy(&self) -> Result<Call, AllocError>
         ensures { IfOk result (λ copy. calling_of copy ≡ calling_of self.now) }
     {
@@ -43,9 +44,9 @@ impl Call {
 
 /// A call with its answer.
 pub struct Called {
-    /// What was called.
+    /// The call.
     pub call: Call,
-    /// What was answered.
+    /// Its answer.
     pub answer: Result<Reply, Refusal>,
 }
 
@@ -56,7 +57,7 @@ impl Drop for Called {
 }
 
 impl Called {
-    /// Returns a copy, which tells the same.
+    /// Returns an equal copy.
     pub fn copy(&self) -> Result<Called, AllocError>
         ensures { IfOk result (λ copy. noted_of copy ≡ noted_of self.now) }
     {
@@ -66,17 +67,17 @@ impl Called {
     }
 }
 
-/// What a client called, from its start on, but for its reads that wait for nobody. A fence stands there as an entry and a leave,
-/// a get as a question and, where that waits, a take. A call that an allocation failed may be missing.
+/// The calls of a client, from its start on, without its reads that wait for nobody. A fence is recorded as an entry and a leave. A get is
+/// recorded as a question and, if it waits, a take. A call whose allocation failed may be missing.
 #[derive(Drop)]
 pub struct Transcript {
     /// The client's process.
     pub proc: Proc,
-    /// What it called, in its order.
+    /// Its calls, in their order.
     pub calls: Vec<Called>,
 }
 
-/// Returns copies of the calls, which tell the same.
+/// Returns equal copies of the calls.
 fn copies_of(alloc: Global, calls: &[Called]) -> Result<Vec<Called>, AllocError>
     ensures { IfOk result (λ copies. map noted_of copies.items ≡ map noted_of calls.now) }
 {
@@ -88,7 +89,7 @@ fn copies_of(alloc: Global, calls: &[Called]) -> Result<Vec<Called>, AllocError>
 }
 
 impl Transcript {
-    /// Returns a copy, which tells the same.
+    /// Returns an equal copy.
     pub fn copy(&self) -> Result<Transcript, AllocError>
         ensures proc { IfOk result (λ copy. copy.proc ≡ self.now.proc) }
         ensures calls { IfOk result (λ copy. noted_in copy ≡ noted_in self.now) }

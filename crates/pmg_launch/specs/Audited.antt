@@ -1,4 +1,4 @@
--- What a job's outcome stands for, and how a job may be refused.
+-- The meaning of a job's outcome, and the refusals of a job.
 use Rattle.std.specs.Prelude.{◌≡◌, ℕ, List, map}
 use Rattle.pmg_value.specs.declared.refusal.Refusal.{Refusal}
 use Rattle.pmg_value.specs.declared.refusal.Refusal.TheVariants as refusals
@@ -12,7 +12,7 @@ use Rattle.pmg_threads.specs.declared.program.Report.{Report}
 use Rattle.pmg_world.specs.Accounts.{Account}
 use Rattle.pmg_launch.specs.declared.launch.Outcome.{Outcome}
 
--- some journals of the job's nodes and transcripts of its processes, of each one, tell that run
+-- some journals of the job's nodes and some transcripts of its processes, one for each, make that run
 pub record IsAudited (jobs : Jobs) (run : Account) : Type 0 where
   pub journals : List Journal
   pub transcripts : List Transcript
@@ -20,14 +20,14 @@ pub record IsAudited (jobs : Jobs) (run : Account) : Type 0 where
   pub procs : map (λ (t : Transcript). t.proc) transcripts ≡ all_procs jobs
   pub one : IsOneRun journals transcripts run
 
--- A job that was run gives a report of each of its processes, and a run of its group that was audited.
+-- A job that was run gives a report of each of its processes, and an audited run of its group.
 pub record IsOutcome (jobs : Jobs) (o : Outcome) : Type 0 where
   pub reports : map (λ (r : Report). r.proc) o.reports.items ≡ all_procs jobs
   pub group : o.run.jobs ≡ jobs
   pub audited : IsAudited jobs o.run
 
--- A job may be refused as it is run, or for a fault that its audit finds: Collision or Unordered. It is never Stale: what a desk records is
--- a replay.
+-- A job may be refused as it is run, or for a fault that its audit finds: Collision or Unordered. It is never Stale, because a desk
+-- records a replay.
 abbrev pub IsLaunchRefusal : Jobs → ℕ → Refusal → Type 0
 IsLaunchRefusal jobs programs refusals.Collision = IsFull jobs programs
 IsLaunchRefusal jobs programs refusals.Unordered = IsFull jobs programs

@@ -1,4 +1,4 @@
-//! A job is run, and then audited.
+//! The run of a job, followed by its audit.
 ghost use Rattle.std.specs.Prelude.{IfErr, IfOk, vec_len};
 ghost use Rattle.pmg_threads.specs.Running.{IsFull};
 ghost use Rattle.pmg_launch.specs.Audited.{IsLaunchRefusal, IsOutcome};
@@ -11,17 +11,17 @@ use std::sync::Wait;
 use std::thread::Threads;
 use std::time::Clock;
 
-/// What came of a job.
+/// The outcome of a job.
 #[derive(Drop)]
 pub struct Outcome {
     /// The reports of the clients, rising by namespace and rank.
     pub reports: Vec<Report>,
-    /// What happened at the nodes, as one run of the model.
+    /// The history of the nodes, as one run of the model.
     pub run: Run,
 }
 
-/// Runs the job, with these programs for its processes, which rise by namespace and rank, over links that lose no frame, repeat none
-/// and hold none back. Errors: `BadParam`, `Collision`, `Unordered`, `Closed` and `NoMemory`, as `run_linked` has them.
+/// Runs the job over links that lose, repeat and hold back no frame, with these programs for its processes, which rise by namespace and
+/// rank. Errors, as from `run_linked`: `BadParam`, `Collision`, `Unordered`, `Closed` and `NoMemory`.
 pub fn run<R: Threads + Wait + Clock + Sync>(
     rt: &R,
     job: Job,
@@ -34,10 +34,10 @@ pub fn run<R: Threads + Wait + Clock + Sync>(
     run_linked(rt, job, programs, Links::default())
 }
 
-/// Runs the job over such links, with these programs for its processes, as `pmg_threads::run_unaudited` does. Once all clients have
-/// ended, what the desks recorded of the nodes and the transcripts of the clients are audited. Errors: `BadParam` where there is not
-/// one program for each process; `Closed` where a desk was closed before all clients had ended; `Collision` and `Unordered` where the
-/// audit finds a fault; `NoMemory`.
+/// Runs the job over such links, with these programs for its processes, as `pmg_threads::run_unaudited` does. Once all clients have ended,
+/// it audits the desks' records of the nodes and the transcripts of the clients. Errors: `BadParam` if there is not one program for each
+/// process; `Closed` if a desk was closed before all clients had ended; `Collision` and `Unordered` if the audit finds a fault;
+/// `NoMemory`.
 pub fn run_linked<R: Threads + Wait + Clock + Sync>(
     rt: &R,
     job: Job,

@@ -1,4 +1,4 @@
-//! A job of several nodes run by threads, and audited: what it hands over is one run of the model.
+//! A job of several nodes that threads run, and that is audited: its outcome is one run of the model.
 #![tactic(auto)]
 
 mod launch;

@@ -1,4 +1,4 @@
--- A server with its clients' caches, and the frames of it that wait.
+-- A server with its clients' caches, and its waiting frames.
 use Rattle.std.specs.Prelude.{◌≡◌, ◌⊎◌, ℕ, ◌++◌, List, [], ◌∷◌, Option, Some, None, Result, Ok, Err, refl}
 use Rattle.std.specs.Coded.{Coded, code_by, coded×, coded_list, coded_option}
 use Rattle.std.specs.FinMap as finite
@@ -21,14 +21,14 @@ use Rattle.pmg_caches.specs.Caching.{AllCached, cached_for, coded_all_cached}
 use Rattle.pmg_caches.specs.OwnKeys.{own_answer, own_key}
 use Rattle.pmg_link.specs.declared.inbox.Inbox.{Inbox}
 
--- a node, what its clients put, the frames of it that wait, the next one first, and what its last act joined
+-- a node, the puts of its clients, its waiting frames, the next one first, and the pieces that its last act joined
 pub record Linked : Type 0 where
   pub node : Server
   pub caches : AllCached
   pub waiting : List Sent
   pub joined : Joins
 
--- its code, by those of a frame that is sent and of a contribution
+-- the code of a link, from the codes of a sent frame and of a contribution
 abbrev pub coded_linked : Coded Sent → Coded Contribution → Coded Linked
 coded_linked coded_sent coded_piece =
     code_by (Server × (AllCached × (List Sent × (Option Contribution × Option Contribution))))
@@ -36,11 +36,11 @@ coded_linked coded_sent coded_piece =
     (λ l. (l.node, (l.caches, (l.waiting, (l.joined.near, l.joined.far)))))
     (λ p. record { node = p.0; caches = p.1.0; waiting = p.1.1.0; joined = record { near = p.1.1.1.0; far = p.1.1.1.1 } }) (λ _. refl)
 
--- a link of the node: nobody put anything, no frame waits, and no act joined anything
+-- a link of the node, without puts, waiting frames and joined pieces
 abbrev pub new_link : Server → Linked
 new_link s = record { node = s; caches = finite.empty; waiting = []; joined = no_joins }
 
--- the link once the node did the act: what it sends waits after the frames that wait
+-- the link after the node performed the act: the sent frames wait after the waiting ones
 abbrev pub link_after : Linked → Act → Linked
 link_after l a = record {
   node = after l.node a;
@@ -51,7 +51,7 @@ link_after l a = record {
 
 -- ---- calls of clients
 
--- the process's client put that value
+-- the link after the process's client put that value
 abbrev pub link_with_put : Linked → Proc → Scope → List ℕ → List ℕ → Linked
 link_with_put l p scope key value = record {
   node = l.node;
@@ -60,37 +60,37 @@ link_with_put l p scope key value = record {
   joined = l.joined;
 }
 
--- what the node does where the process commits what its client put
+-- the act of the node if the process commits its client's puts
 abbrev pub commit_of : Linked → Proc → Act
 commit_of l p = Act.commit p (unsealed_of (cached_for l.caches p))
 
--- the link once that is committed
+-- the link after that commit
 abbrev pub link_committed : Linked → Proc → Linked
 link_committed l p =
     let done = link_after l (commit_of l p) in
     record { node = done.node; caches = changed_at l.caches p (after_commit (cached_for l.caches p)); waiting = done.waiting; joined = done.joined }
 
--- A refusal of a commit is the one that is due. NoMemory is told only where the commit would be accepted, or would pass a limit:
--- whether it does is known only by a copy of what was put.
+-- The refusal of a commit is the due one. NoMemory comes only if the commit would be accepted, or would pass a limit: only a copy of the
+-- puts shows whether it does.
 abbrev pub RefusesCommit : Refusal → Reply → Type 0
 RefusesCommit refusals.NoMemory due = IsAccepted due ⊎ (due ≡ Reply.refused refusals.TooMany)
 RefusesCommit e due = due ≡ Reply.refused e
 
--- a commit is answered with what is due, or an allocation failed that it takes
+-- the answer to a commit is the due one, or an allocation of the commit failed
 abbrev pub RepliesCommit : Result GivenReply Refusal → Reply → Type 0
 RepliesCommit (Ok r) due = due ≡ reply_as r
 RepliesCommit (Err e) due = RefusesCommit e due
 
--- A request is answered so: a get of a key of one's own by what one's client put, any other request by the node.
+-- The answer to a request: the client's puts answer a get of the process's own key, and the node answers any other request.
 abbrev pub RepliesBy : Option (Proc × List ℕ) → Linked → Request → Result GivenReply Refusal → Type 0
 RepliesBy None l r answer = RepliesAct reply_as answer l.node (Act.request r)
 RepliesBy (Some own) l r answer = Replies reply_as answer (reply_or_refusal (own_answer l.node (cached_for l.caches own.0) own.0 own.1))
 
--- that is how it is answered
+-- the answer to a request, by the target of its get
 abbrev pub RepliesRequest : Linked → Request → Result GivenReply Refusal → Type 0
 RepliesRequest l r answer = RepliesBy (own_key r) l r answer
 
--- the link then, which a get of one's own leaves as it was
+-- the link afterwards, which a get of the process's own key leaves unchanged
 abbrev pub after_by : Option (Proc × List ℕ) → Linked → Request → Linked
 after_by None l r = link_after l (Act.request r)
 after_by (Some own) l r = l
@@ -101,7 +101,7 @@ after_request l r = after_by (own_key r) l r
 
 -- ---- frames of other nodes
 
--- the frame that came first is delivered, with that reply, and waits no more
+-- the first frame is delivered, with that reply, and waits no more
 pub record DeliversFirst (c d : Inbox) (l m : Linked) (reply : GivenReply) : Type 0 where
   pub frame : Frame
   pub first : c.frames.items ≡ frame ∷ d.frames.items
@@ -110,7 +110,7 @@ pub record DeliversFirst (c d : Inbox) (l m : Linked) (reply : GivenReply) : Typ
   pub replies : reply_to l.node (Act.deliver frame) ≡ reply_as reply
   pub done : m ≡ link_after l (Act.deliver frame)
 
--- it is, or none waits and nothing is done
+-- the first frame is delivered, or no frame waits and nothing is done
 abbrev pub DeliversNext : Inbox → Inbox → Linked → Linked → Option GivenReply → Type 0
 DeliversNext c d l m None = (c.frames.items ≡ []) × ((d ≡ c) × (m ≡ l))
 DeliversNext c d l m (Some reply) = DeliversFirst c d l m reply

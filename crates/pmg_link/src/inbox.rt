@@ -1,4 +1,4 @@
-//! What comes from one other node.
+//! The bytes and frames that come from one other node.
 ghost use Rattle.std.specs.Prelude.{◌≡◌, ◌≢◌, ◌↔◌, [], length, Some, None, Err, IfSome, IfErr, ◌⊎◌, IsNone, OnOk, OnErr};
 ghost use Rattle.pmg_value.specs.declared.refusal.Refusal.TheVariants as refusals;
 ghost use Rattle.pmg_frame.specs.Streams.{FeedsOpen, IsFeedRefusal, IsPastEnd};
@@ -8,8 +8,8 @@ use pmg_value::{Fault, Refusal};
 use std::alloc::Global;
 use std::collections::VecDeque;
 
-/// What came from one other node and was not delivered yet: the bytes of a frame that is not whole, and the frames that are, the
-/// next one first; with the fault after them, where one came.
+/// The frames of one other node that were not delivered yet: the bytes of an incomplete frame, and the complete frames, the next one
+/// first. Then the fault after them, if one came.
 #[derive(Drop)]
 pub struct Inbox {
     pub(crate) stream: Stream,
@@ -18,7 +18,7 @@ pub struct Inbox {
 }
 
 impl Inbox {
-    /// An inbox into which nothing has come yet.
+    /// Makes an inbox into which nothing has come yet.
     pub fn new(alloc: Global) -> Inbox
         ensures stream { result.stream ≡ Some (record { offset = 0; rest = [] }) }
         ensures frames { result.frames.items ≡ [] }
@@ -31,9 +31,9 @@ impl Inbox {
         }
     }
 
-    /// Takes the next bytes of the node, in whatever pieces they come: the frames that are whole now wait to be delivered
-    /// (`Link::deliver_next`). Refused as Closed after a fault, as Busy where frames that came before wait still, as TooMany where
-    /// an offset would pass 18446744073709551615, and as NoMemory; a refusal changes nothing.
+    /// Takes the next bytes of the node, in any pieces. Complete frames wait then to be delivered (`Link::deliver_next`). A refusal
+    /// changes nothing. Errors: `Closed` after a fault; `Busy` if earlier frames still wait; `TooMany` if an offset would pass
+    /// 18446744073709551615; `NoMemory`.
     pub fn feed(&mut self, bytes: &[u8]) -> Result<(), Refusal>
         ensures fed { OnOk result (FeedsOpen self.old.stream bytes.now self.new.frames.items self.new.fault self.new.stream) }
         ensures idle { OnOk result (self.old.frames.items ≡ []) }
@@ -56,14 +56,14 @@ impl Inbox {
         Ok(())
     }
 
-    /// How many frames wait to be delivered.
+    /// Returns the number of frames that wait to be delivered.
     pub fn waiting(&self) -> usize
         ensures { result ≡ length self.now.frames.items }
     {
         self.frames.len()
     }
 
-    /// The fault after the frames, where one came: nothing more is read from the node then.
+    /// Returns the fault after the frames, if one came: then nothing more is read from the node.
     pub fn fault(&self) -> Option<Fault>
         ensures { result ≡ self.now.fault }
     {

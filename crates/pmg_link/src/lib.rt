@@ -1,4 +1,4 @@
-//! One server with the frames that come to it and the frames of it that wait, for those who carry frames themselves.
+//! One server with its incoming and its waiting frames, for programs that carry frames themselves.
 #![tactic(auto)]
 
 mod inbox;

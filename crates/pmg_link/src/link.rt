@@ -1,4 +1,4 @@
-//! A node with what its clients put, and the frames of it that wait.
+//! A node with the puts of its clients, and its frames that wait.
 ghost use Rattle.std.specs.Prelude.{◌≡◌, ◌++◌, [], length, Err, IfOk, OnOk, OnErr, IsNone, slice_get};
 ghost use Rattle.std.specs.Option.{option_copied, option_to_list};
 ghost use Rattle.pmg_value.specs.Answers.{Gives};
@@ -25,8 +25,8 @@ use std::alloc::AllocError;
 use std::collections::VecDeque;
 use std::marker::Model;
 
-/// A server with what its clients put and the frames that it sent and nobody took yet, for one who carries frames between servers:
-/// calls of clients are handed in, and frames are taken out, in the order in which they were sent.
+/// A server with the puts of its clients and its sent frames that nobody took yet, for a program that carries frames between servers. The
+/// program hands in the calls of clients, and takes out the frames, in the order in which they were sent.
 pub struct Link {
     node: Server,
     caches: Caches,
@@ -58,7 +58,7 @@ impl Model for Link {
     ghost view = { λ a. record { node = a.node; caches = a.caches; waiting = a.waiting.items; joined = joins_in a.joined } };
 }
 
-/// The process's commit of what its client put since the last one.
+/// Returns the commit of the client's puts since its last commit, as an act of the process.
 fn commit_act(caches: &Caches, proc: &Proc) -> Result<Act, AllocError>
     ensures { IfOk result (λ a. act_of a ≡ ModelAct.commit proc.now (unsealed_of (cached_for caches.now proc.now))) }
 {
@@ -67,7 +67,7 @@ fn commit_act(caches: &Caches, proc: &Proc) -> Result<Act, AllocError>
 }
 
 impl Link {
-    /// A link of that node: nobody put anything, no frame waits, and nothing was joined. It keeps the allocator of the node's registry.
+    /// Makes a link of that node, without puts, waiting frames and joined pieces. It keeps the allocator of the node's registry.
     pub fn new(node: Server) -> Link
         ensures { result ≡ new_link node }
     {
@@ -80,9 +80,9 @@ impl Link {
         }
     }
 
-    /// Does what is asked, and puts the frames that the node sends after those that wait. Refused as the node's own call is; as
-    /// NoMemory where an allocation failed, and then all is as it was, also what was joined last. Another refusal changes nothing
-    /// but what was joined, which is nothing then.
+    /// Performs the act, and puts the frames that the node sends after the waiting ones. Errors: the refusals of the node's own call,
+    /// which change nothing except the joined pieces, which are empty then; `NoMemory` if an allocation failed, and then nothing changed,
+    /// not even the joined pieces.
     pub fn act(&mut self, act: &Act) -> Result<Reply, Refusal>
         ensures reply { RepliesAct reply_as result self.old.node (act_of act.now) }
         ensures done { IsAnswered result → self.new ≡ link_after self.old (act_of act.now) }
@@ -101,9 +101,9 @@ impl Link {
         }
     }
 
-    /// The process puts the value under the key (PMIx Standard 5.0, PMIx_Put). Refused as BadParam where no process may put so or who
-    /// calls is none of its namespace; as UnknownNamespace, NotMine, Terminated and Busy for who calls; as TooMany where its client's
-    /// cache would pass a limit; and as NoMemory. A refused put changes nothing.
+    /// Puts the value under the key, for the process (PMIx Standard 5.0, PMIx_Put). A refused put changes nothing. Errors: `BadParam` if
+    /// no process may make such a put, or the caller is not in its namespace; `UnknownNamespace`, `NotMine`, `Terminated` and `Busy` for
+    /// the caller; `TooMany` if its client's cache would pass a limit; `NoMemory`.
     pub fn put(&mut self, proc: &Proc, scope: Scope, key: Key, value: Value) -> Result<(), Refusal>
         ensures answer { Gives (λ u. u) result
             (first_of (put_cause_at self.old.node (cached_for self.old.caches proc.now) proc.now scope key (spelling value)) tt) }
@@ -113,7 +113,7 @@ impl Link {
         put_at(&self.node, &mut self.caches, proc, scope, key, value)
     }
 
-    /// Refuses a commit for which memory lacks: for who calls where that is due, and else as NoMemory.
+    /// Refuses a commit for which memory is missing: with the caller's refusal if one is due, else as NoMemory.
     fn refuse_commit(&mut self, proc: &Proc) -> Refusal
         ensures reply { RefusesCommit result (reply_to self.old.node (commit_of self.old proc.now)) }
         ensures after { IsAnswered {X = GivenReply} (Err result) → self.new ≡ link_after self.old (commit_of self.old proc.now) }
@@ -128,9 +128,9 @@ impl Link {
         }
     }
 
-    /// The process commits what it put since its last commit (PMIx Standard 5.0, PMIx_Commit). Refused as the node refuses the
-    /// commit, and then what it put waits for the next one; and as NoMemory, which changes nothing. NoMemory comes only where the
-    /// commit would be accepted, or would pass a limit: whether it does is known only by a copy of what was put.
+    /// Commits the puts of the process since its last commit (PMIx Standard 5.0, PMIx_Commit). Errors: the refusals of the node's commit,
+    /// after which the puts wait for the next commit; `NoMemory`, which changes nothing. NoMemory comes only if the commit would be
+    /// accepted, or would pass a limit: only a copy of the puts shows whether it does.
     pub fn commit(&mut self, proc: &Proc) -> Result<Reply, Refusal>
         ensures reply { RepliesCommit result (reply_to self.old.node (commit_of self.old proc.now)) }
         ensures done { OnOk result (self.new ≡ link_committed self.old proc.now) }
@@ -145,8 +145,8 @@ impl Link {
         Ok(reply)
     }
 
-    /// A process asks for something, or the one who runs the node. A get of a key of one's own that is none of the standard's is
-    /// answered by what its client put last, committed or not; any other request is the node's. Refused as `act` is.
+    /// Makes a request of a process, or of the program that runs the node. The last put of the client, committed or not, answers a get of
+    /// the process's own key, unless the key belongs to the standard. The node answers any other request. Errors: the errors of `act`.
     pub fn request(&mut self, request: Request) -> Result<Reply, Refusal>
         ensures reply { RepliesRequest self.old (request_of request) result }
         ensures done { IsAnswered result → self.new ≡ after_request self.old (request_of request) }
@@ -158,8 +158,8 @@ impl Link {
         }
     }
 
-    /// A frame of another node is taken or ignored, and the frames that the node sends then are put after those that wait. Where an
-    /// allocation fails all is as it was.
+    /// Delivers a frame of another node, which the node takes or ignores, and puts the frames that the node sends then after the waiting
+    /// ones. If an allocation fails, nothing changed.
     pub fn deliver(&mut self, frame: &Frame) -> Result<Reply, AllocError>
         ensures reply { IfOk result (λ reply. reply_to self.old.node (ModelAct.deliver frame.now) ≡ reply_as reply) }
         ensures done { OnOk result (self.new ≡ link_after self.old (ModelAct.deliver frame.now)) }
@@ -170,8 +170,8 @@ impl Link {
         Ok(acted.reply)
     }
 
-    /// Delivers the frame that came first of those that wait in the inbox; none where no frame waits there. Where an allocation
-    /// fails all is as it was, and the frame waits on.
+    /// Delivers the first waiting frame of the inbox. Returns `None` if no frame waits there. If an allocation fails, nothing changed, and
+    /// the frame continues to wait.
     pub fn deliver_next(&mut self, inbox: &mut Inbox) -> Result<Option<Reply>, AllocError>
         ensures delivers { IfOk result (λ reply. DeliversNext inbox.old inbox.new self.old self.new reply) }
         ensures err { OnErr result (self.new ≡ self.old) }
@@ -185,8 +185,7 @@ impl Link {
         Ok(Some(reply))
     }
 
-    /// Takes the frame that was sent first of those that wait, with the node that it is for; none where no frame waits. It takes no
-    /// memory.
+    /// Takes the first waiting frame, with its receiver. Returns `None` if no frame waits. It takes no memory.
     pub fn outbox(&mut self) -> Option<Sent>
         ensures waiting { self.old.waiting ≡ option_to_list result ++ self.new.waiting }
         ensures none { IsNone result → self.old.waiting ≡ [] }
@@ -197,29 +196,30 @@ impl Link {
         self.waiting.pop_front()
     }
 
-    /// The frame that `outbox` takes next, with the node that it is for; none where no frame waits. It goes on waiting, so that who
-    /// has too little room for its bytes (`Frame::encode`) loses nothing.
+    /// Returns the frame that `outbox` takes next, with its receiver, or `None` if no frame waits. The frame continues to wait, so that a
+    /// caller with too little room for its bytes (`Frame::encode`) loses nothing.
     pub fn front(&self) -> Option<&Sent>
         ensures { option_copied result ≡ slice_get self.now.waiting 0 }
     {
         self.waiting.front()
     }
 
-    /// How many frames wait.
+    /// Returns the number of waiting frames.
     pub fn waiting(&self) -> usize
         ensures { result ≡ length self.now.waiting }
     {
         self.waiting.len()
     }
 
-    /// What the last act joined into the node's stores: nothing where it was refused or ignored, and where there was none.
+    /// Returns the pieces that the last act joined into the node's stores: nothing if the act was refused or ignored, or if there was no
+    /// act.
     pub fn joined(&self) -> &Joined
         ensures { joins_in result.now ≡ self.now.joined }
     {
         &self.joined
     }
 
-    /// The node.
+    /// Returns the node.
     pub fn node(&self) -> &Server
         ensures { result.now ≡ self.now.node }
     {

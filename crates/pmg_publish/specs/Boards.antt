@@ -1,4 +1,4 @@
--- What is shown to viewers.
+-- The board that viewers see.
 use Rattle.std.specs.Prelude.{◌≡◌}
 use Rattle.pmg_commit.specs.Data.{join_data}
 use Rattle.pmg_store.specs.Pieces.{data_of}
@@ -6,11 +6,11 @@ use Rattle.pmg_publish.specs.declared.shown.Shown.{Shown}
 use Rattle.pmg_publish.specs.declared.shown.Update.{Update}
 use Rattle.pmg_publish.specs.Publications.{near_of, far_of}
 
--- the board is the one that the list makes
+-- the list makes the board
 abbrev pub IsMade : Shown → Type 0
 IsMade x = (x.board.near ≡ near_of x.history.log) × (x.board.far ≡ far_of x.history.log)
 
--- what is shown once the publication is taken too
+-- the shown board after it takes the publication
 abbrev pub applied : Shown → Update → Shown
 applied x i = record {
   board = record {

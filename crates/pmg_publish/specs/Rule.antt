@@ -1,4 +1,4 @@
--- The rule over what is shown and what each place knows of it: lists alone.
+-- The rule over the shown board and the knowledge of each place; it speaks only of lists.
 use Rattle.std.specs.Prelude.{ℕ, ◌≡◌, true, false, List, []}
 use mathlib.Core.Option.{some}
 use mathlib.Core.List.{IsPrefix}
@@ -9,11 +9,11 @@ use Rattle.pmg_publish.specs.declared.shown.Shown.{Shown}
 use Rattle.pmg_publish.specs.Publications.{Publications}
 use Rattle.pmg_publish.specs.Boards.{IsMade}
 
--- a new place, which knows of no list
+-- a new place, which knows no list
 abbrev pub unnamed : Known
 unnamed = record { live = false; history = record { book = record { number = 0; log_name = 0; cells_name = 0 }; log = [] } }
 
--- a place that knows this much of its list
+-- a place with this knowledge of its list
 abbrev pub knowing : Publications → Known
 knowing h = record { live = true; history = h }
 
@@ -21,14 +21,14 @@ knowing h = record { live = true; history = h }
 abbrev pub IsOf : Book → Known → Type 0
 IsOf b v = (v.live ≡ true) × (v.history.book ≡ b)
 
--- where the place is live, it knows a prefix of the list of what is shown
+-- if the place is live, it knows a prefix of the list of the shown board
 abbrev pub KnowsPrefix : Shown → Known → Type 0
 KnowsPrefix x v = v.live ≡ true → (v.history.book ≡ x.history.book) × IsPrefix v.history.log x.history.log
 
--- what is shown is what its list makes, and each live place knows a prefix of that list
+-- its list makes the shown board, and each live place knows a prefix of that list
 abbrev pub KeepsShown : Shown → List Known → Type 0
 KeepsShown x views = IsMade x × ((seat : ℕ) (v : Known) → get_elem? views seat ≡ some v → KnowsPrefix x v)
 
--- what is shown afterwards is what its list makes; the list begins with what the place knew, which now knows all of it
+-- its list makes the board that is shown afterwards; the list begins with the place's earlier knowledge, and the place now knows all of it
 abbrev pub Sees : Known → Shown → Shown → Known → Type 0
 Sees v x y w = KnowsPrefix y v × IsMade y × (w ≡ knowing y.history)

@@ -1,4 +1,4 @@
--- What is read of a process under a key.
+-- The result of a read of a process under a key.
 use Rattle.std.specs.Prelude.{◌≡◌, List, ℕ, is_some}
 use Rattle.std.specs.Option.{option_map}
 use Rattle.pmg_value.specs.declared.process.Proc.{Proc}
@@ -8,7 +8,7 @@ use Rattle.pmg_commit.specs.Data.{Data, read_at}
 use Rattle.pmg_publish.specs.declared.sight.FarSnapshot.{FarSnapshot}
 use Rattle.pmg_publish.specs.declared.sight.Snapshot.{Snapshot}
 
--- the values that read in the near and in the far store, and whether the process has ended in each
+-- the values under the key in the near and in the far store, and whether the process has ended in each
 abbrev pub IsSight : Data → Data → Proc → List ℕ → Snapshot → Type 0
 IsSight near far p key s =
     (option_map spelling s.near ≡ read_at near p key)
@@ -16,6 +16,6 @@ IsSight near far p key s =
     × (s.near_ended ≡ is_some (read_at near p term_key))
     × (s.far_ended ≡ is_some (read_at far p term_key))
 
--- the value that reads in the far store, and whether the process has ended there
+-- the value under the key in the far store, and whether the process has ended there
 abbrev pub IsFarSight : Data → Proc → List ℕ → FarSnapshot → Type 0
 IsFarSight far p key s = (option_map spelling s.value ≡ read_at far p key) × (s.ended ≡ is_some (read_at far p term_key))

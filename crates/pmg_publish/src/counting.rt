@@ -1,10 +1,10 @@
-//! The list of publications, which a word counts. The list stands in proofs alone.
+//! The list of publications, which a word counts. The list exists only in proofs.
 use crate::parts::Parts;
 use logbook::{Gain, Plain, Play, Rule, Word};
 use pmg_commit::Piece;
 use std::collections::LinkedList;
 
-/// What one publication joins into the near and into the far store. No value of it is made.
+/// The pieces that one publication joins into the near and into the far store. No value of this type is made.
 pub struct Publication {
     pub near: LinkedList<Piece>,
     pub far: LinkedList<Piece>,
@@ -34,7 +34,7 @@ impl Rule<Publication, u64> for Count {
 /// The word that counts a list of publications.
 pub type Counter = Word<Publication, u64, Count>;
 
-/// A step on the word trades nothing.
+/// The gain of a step on the word, which is nothing.
 pub struct Nothing;
 
 impl Gain<Publication, u64> for Nothing {

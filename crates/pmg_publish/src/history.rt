@@ -8,8 +8,7 @@ use crate::parts::Parts;
 use logbook::{Offer, Seen, Start, Word};
 use std::marker::Model;
 
-/// A prefix of a publisher's list of publications. Contracts see of which list it is, and the publications. The code keeps
-/// their number alone.
+/// A prefix of a publisher's list of publications. Contracts see its list, and the publications. The code keeps only their number.
 #[derive(Drop)]
 pub struct History {
     count: u64,
@@ -28,7 +27,7 @@ impl Model for History {
 }
 
 impl History {
-    /// A new list without publications, and the word that counts it.
+    /// Opens a new list without publications, and returns its history and the word that counts it.
     pub fn open() -> (History, Counter)
         ensures log { result.0.log ≡ [] }
         ensures counter { result.1 ≡ counter_of result.0.book }
@@ -38,7 +37,7 @@ impl History {
         (History { count: 0, seen }, counter)
     }
 
-    /// A copy.
+    /// Returns a copy.
     pub fn again(&self) -> History
         ensures { result ≡ self.now }
     {
@@ -48,7 +47,7 @@ impl History {
         }
     }
 
-    /// Whether this history begins with the other one; if not, the other one begins with this one.
+    /// Returns whether this history begins with the other one; if not, the other one begins with this one.
     pub fn continues(&self, other: &History) -> bool
         requires { other.now.book ≡ self.now.book }
         ensures { MatchBool result (IsPrefix other.now.log self.now.log) (IsPrefix self.now.log other.now.log) }
@@ -58,8 +57,8 @@ impl History {
         other.count <= self.count
     }
 
-    /// The history with the publication of these parts after all others; none where the list is longer than this history
-    /// or cannot be counted any more.
+    /// Returns the history with the publication of these parts after all others, or `None` if the list is longer than this history or its
+    /// count is full.
     pub fn with_publication(&self, counter: &Counter, parts: &Parts) -> Option<History>
         requires { counter.now ≡ counter_of self.now.book }
         ensures book { IfSome result (λ h. h.book ≡ self.now.book) }

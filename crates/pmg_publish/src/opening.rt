@@ -16,8 +16,8 @@ use std::sync::Wait;
 /// The most viewers of a publisher.
 pub const MAX_VIEWERS: usize = 65_536;
 
-/// A publisher of an empty board, and so many viewers, who have seen it. There are at most 65,536 of them, and none is added
-/// later. Nobody reads yet, so it waits for nobody. Refused as NoMemory alone.
+/// Makes a publisher of an empty board, and this number of viewers, who have seen it. There are at most 65,536 of them, and none is added
+/// later. Nobody reads yet, and therefore it waits for nobody. Errors: only `NoMemory`.
 pub fn publisher<R: Wait>(
     rt: &R,
     alloc: Global,
@@ -40,7 +40,7 @@ pub fn publisher<R: Wait>(
     }
 }
 
-/// A writer with so many places for readers, which shows the board of this list, without publications.
+/// Makes a writer with so many places for readers, which shows the board of this list, without publications.
 fn desk_of<R: Wait>(
     rt: &R,
     alloc: Global,
@@ -66,7 +66,7 @@ fn desk_of<R: Wait>(
     }
 }
 
-/// So many viewers, who have seen what the writer shows.
+/// Makes so many viewers, who have seen the writer's board.
 fn viewers_of(
     alloc: Global,
     writer: &mut Desk,
@@ -87,7 +87,7 @@ fn viewers_of(
     Ok(all)
 }
 
-/// One more viewer, who has seen what the writer shows.
+/// Makes another viewer, who has seen the writer's board.
 fn viewer_of(writer: &mut Desk, history: &History) -> Result<Viewer, AllocError>
     requires { known_at writer.old.desk.place ≡ knowing history.now }
     ensures shown { writer.new.desk.shown ≡ writer.old.desk.shown }

@@ -23,8 +23,7 @@ use std::sync::Wait;
 /// The writer of the two copies.
 pub(crate) type Desk = Writer<Shown, Update, Known, InOneList>;
 
-/// The one who publishes. Contracts see whether it is open, and the list of its publications. It is not dropped: end it by
-/// `close`.
+/// The publisher of a board. Contracts see whether it is open, and the list of its publications. It is not dropped: end it by `close`.
 pub struct Publisher {
     is_open: bool,
     writer: Option<Desk>,
@@ -52,7 +51,7 @@ impl Model for Publisher {
 }
 
 impl Publisher {
-    /// A publisher of this list, by this writer, which shows it.
+    /// Makes a publisher of this list, by this writer, which shows it.
     pub(crate) fn new(writer: Desk, counter: Counter, history: History) -> Publisher
         requires counter { counter ≡ counter_of history.book }
         requires place { IsOf history.book (known_at writer.desk.place) }
@@ -68,9 +67,9 @@ impl Publisher {
         }
     }
 
-    /// Shows viewers the board with these pieces too, all of them at once, as the next publication of its list. It waits for
-    /// those who still read the board before the last. NoMemory closes the publisher: what was published stands, viewers go on
-    /// reading it, and every later call is Closed.
+    /// Shows viewers the board with these pieces added, all at once, as the next publication of its list. It waits for viewers that still
+    /// read the board before the last. Errors: `NoMemory`, which closes the publisher. Earlier publications stay, viewers continue to read
+    /// them, and every later call is refused as `Closed`.
     pub fn publish<R: Wait>(
         &mut self,
         rt: &R,
@@ -95,7 +94,7 @@ impl Publisher {
         self.show(rt, issue)
     }
 
-    /// The next publication of the list, of these parts; none where the list cannot be counted any more.
+    /// Returns the next publication of the list, with these parts, or `None` if the count of the list is full.
     fn issue_of(&self, parts: Parts) -> Option<Update>
         ensures near { IfSome result (λ i. i.parts.near.items ≡ parts.near.items) }
         ensures far { IfSome result (λ i. i.parts.far.items ≡ parts.far.items) }
@@ -106,7 +105,7 @@ impl Publisher {
         Some(Update { parts, history })
     }
 
-    /// Shows the board with what is issued; the publisher is closed where an allocation fails.
+    /// Shows the board with the update. It closes the publisher if an allocation fails.
     fn show<R: Wait>(&mut self, rt: &R, issue: Update) -> Result<(), Refusal>
         requires open { self.old.is_open ≡ true }
         requires book { issue.history.book ≡ self.old.book }
@@ -134,7 +133,7 @@ impl Publisher {
         Ok(())
     }
 
-    /// What was published so far. It tells nobody by itself: a viewer learns it.
+    /// Returns the publications so far. The call informs no viewer: a viewer learns its result.
     pub fn tell(&self) -> Told
         ensures { result ≡ record { book = self.now.book; log = self.now.log } }
     {
@@ -143,8 +142,8 @@ impl Publisher {
         }
     }
 
-    /// Whether all that the viewer saw and was told of is published here, as it is in every run: where it is, the viewer's list
-    /// is a prefix of this one's, else the other way round.
+    /// Returns whether the viewer's sight is published here, as it is in every run. If it is, the viewer's list is a prefix of this one,
+    /// else this one is a prefix of the viewer's.
     pub fn has_published(&self, viewer: &Viewer) -> bool
         requires { viewer.now.book ≡ self.now.book }
         ensures { MatchBool result (IsPrefix viewer.now.log self.now.log) (IsPrefix self.now.log viewer.now.log) }
@@ -152,7 +151,7 @@ impl Publisher {
         self.history.continues(viewer.history())
     }
 
-    /// Ends the publisher. It waits for those who still read, and viewers are Closed from then on.
+    /// Ends the publisher. It waits for viewers that still read, and later reads of viewers are refused as Closed.
     pub fn close<R: Wait>(self, rt: &R) {
         let Publisher {
             is_open: _,
@@ -166,7 +165,7 @@ impl Publisher {
     }
 }
 
-/// Puts the writer into its place, and ends the one that was there.
+/// Puts the writer into its place, and ends the earlier one.
 fn put_back<R: Wait>(place: &mut Option<Desk>, writer: Desk, rt: &R)
     ensures { place.new ≡ Some writer }
 {

@@ -1,16 +1,16 @@
-//! The rule over what is shown and what each place knows of it.
+//! The rule over the shown board and the knowledge of each place.
 use crate::history::History;
 use crate::shown::Shown;
 use atomic_table::{Join, Split};
 use crossbeam_utils::rule::{Outcome, Protocol};
 
-/// What a place knows: once it is live, a prefix of the list that made what is shown. No value of it is made.
+/// The knowledge of a place: once it is live, a prefix of the list that made the shown board. No value of this type is made.
 pub struct Known {
     pub live: bool,
     pub history: History,
 }
 
-/// What is shown is made by one list, of which each live place knows a prefix.
+/// The rule that one list makes the shown board, and that each live place knows a prefix of it.
 pub struct InOneList;
 
 impl Protocol<Shown, Known> for InOneList {
@@ -21,7 +21,7 @@ impl Protocol<Shown, Known> for InOneList {
     ghost first = { unnamed };
 }
 
-/// Who enters or publishes knows the whole list afterwards.
+/// The rule that a place knows the whole list after it enters or publishes.
 pub struct Sees;
 
 impl Outcome<Shown, Known> for Sees {
@@ -30,7 +30,7 @@ impl Outcome<Shown, Known> for Sees {
     ghost then = { Sees };
 }
 
-/// The writer lets a reader know what it knows.
+/// The rule that the writer shares its knowledge with a reader.
 pub struct Shares;
 
 impl Split<Known> for Shares {

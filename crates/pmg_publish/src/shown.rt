@@ -7,7 +7,7 @@ use left_right::Absorb;
 use pmg_store::Board;
 use std::alloc::{AllocError, Global};
 
-/// What viewers read: a board, and the list of publications that made it.
+/// The value that viewers read: a board, and the list of publications that made it.
 pub struct Shown {
     pub board: Board,
     pub history: History,
@@ -19,7 +19,7 @@ impl Drop for Shown {
     }
 }
 
-/// What is published: the parts, and the list that ends with them.
+/// The next publication: the parts, and the list that ends with them.
 pub struct Update {
     pub parts: Parts,
     pub history: History,
@@ -32,7 +32,7 @@ impl Drop for Update {
 }
 
 impl Shown {
-    /// The board of a list without publications.
+    /// Makes the board of a list without publications.
     #[tactic(auto, unfolding(crate::specs::Publications::near_of, crate::specs::Publications::far_of))]
     pub fn new(alloc: Global, history: &History) -> Shown
         requires { history.now.log ≡ [] }

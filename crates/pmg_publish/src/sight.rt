@@ -6,8 +6,7 @@ use pmg_store::Board;
 use pmg_value::{Key, Proc, Value};
 use std::alloc::AllocError;
 
-/// What is read of a process under a key: the values in the near and in the far store, and whether the process has ended in
-/// each.
+/// The result of a read of a process under a key: the values in the near and in the far store, and whether the process has ended in each.
 #[derive(Drop)]
 pub struct Snapshot {
     pub near: Option<Value>,
@@ -16,14 +15,14 @@ pub struct Snapshot {
     pub far_ended: bool,
 }
 
-/// What is read of a process under a key in the far store alone: the value, and whether the process has ended there.
+/// The result of a read of a process under a key in the far store only: the value, and whether the process has ended there.
 #[derive(Drop)]
 pub struct FarSnapshot {
     pub value: Option<Value>,
     pub ended: bool,
 }
 
-/// What is read of the process under the key in the board, copied.
+/// Reads the process under the key in the board, and copies the result.
 pub(crate) fn sight_of(board: &Board, proc: &Proc, key: &Key) -> Result<Snapshot, AllocError>
     ensures { IfOk result (IsSight board.now.near board.now.far proc.now key.now) }
 {
@@ -37,7 +36,7 @@ pub(crate) fn sight_of(board: &Board, proc: &Proc, key: &Key) -> Result<Snapshot
     })
 }
 
-/// What is read of the process under the key in the board's far store, copied.
+/// Reads the process under the key in the board's far store, and copies the result.
 pub(crate) fn far_sight_of(board: &Board, proc: &Proc, key: &Key) -> Result<FarSnapshot, AllocError>
     ensures { IfOk result (IsFarSight board.now.far proc.now key.now) }
 {
@@ -48,7 +47,7 @@ pub(crate) fn far_sight_of(board: &Board, proc: &Proc, key: &Key) -> Result<FarS
     })
 }
 
-/// A copy of the value, if there is one.
+/// Returns a copy of the value, if there is one.
 fn copy_of(value: Option<&Value>) -> Result<Option<Value>, AllocError>
     ensures { IfOk result (λ copy. copy ≡ option_map (λ v. v.now) value.entry) }
 {

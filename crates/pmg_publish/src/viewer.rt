@@ -23,7 +23,7 @@ pub(crate) type Place = Reader<Shown, Known, InOneList>;
 /// A place while it reads.
 type Entered = Reading<Shown, Known, InOneList>;
 
-/// What a publisher had published when it told so. Contracts see it as that prefix of its list.
+/// The publications of a publisher at the time of its `tell`. Contracts see them as that prefix of its list.
 #[derive(Drop)]
 pub struct Told {
     pub(crate) history: History,
@@ -37,10 +37,9 @@ impl Model for Told {
     ghost view = { λ t. t.history };
 }
 
-/// One who reads what is published, and waits for nobody. Contracts see it as the list of publications that it saw last or
-/// was told of.
+/// A reader of the publications, which waits for nobody. Contracts see it as the list of publications that it last saw or learned.
 pub struct Viewer {
-    /// Its place, which it always has but while it reads.
+    /// Its place, which it always has except while it reads.
     place: Option<Place>,
     history: History,
 }
@@ -65,7 +64,7 @@ impl Model for Viewer {
 }
 
 impl Viewer {
-    /// A viewer at this place that has seen this much.
+    /// Makes a viewer at this place that has seen this history.
     pub(crate) fn new(place: Place, history: History) -> Viewer
         requires { IsOf history.book (known_at place.place) }
         ensures { result ≡ history }
@@ -76,14 +75,14 @@ impl Viewer {
         }
     }
 
-    /// What it saw last or was told of.
+    /// Returns the history that it last saw or learned.
     pub(crate) fn history(&self) -> &History
         ensures { result.now ≡ self.now }
     {
         &self.history
     }
 
-    /// From now on the viewer sees no less than what it was told of.
+    /// Learns these publications: from now on the viewer sees at least them.
     pub fn learn(&mut self, told: &Told)
         requires { told.now.book ≡ self.old.book }
         ensures book { self.new.book ≡ self.old.book }
@@ -96,8 +95,8 @@ impl Viewer {
         }
     }
 
-    /// What is read of the process under the key, in the board that a list of publications makes. The list begins with all
-    /// that this viewer saw before and was told of. Closed where the publisher is closed; NoMemory where a copy fails.
+    /// Reads the process under the key, in the board that a list of publications makes. The list begins with all that this viewer saw or
+    /// learned before. Errors: `Closed` if the publisher is closed; `NoMemory` if a copy fails.
     pub fn read(&mut self, proc: &Proc, key: &Key) -> Result<Snapshot, Refusal>
         ensures book { self.new.book ≡ self.old.book }
         ensures seen { IsPrefix self.old.log self.new.log }
@@ -115,9 +114,8 @@ impl Viewer {
         Ok(sight)
     }
 
-    /// What is read of the process under the key in the far store alone, in the board that a list of publications makes. The list
-    /// begins with all that this viewer saw before and was told of. Closed where the publisher is closed; NoMemory where the copy
-    /// fails.
+    /// Reads the process under the key in the far store only, in the board that a list of publications makes. The list begins with all
+    /// that this viewer saw or learned before. Errors: `Closed` if the publisher is closed; `NoMemory` if the copy fails.
     pub fn read_far(&mut self, proc: &Proc, key: &Key) -> Result<FarSnapshot, Refusal>
         ensures book { self.new.book ≡ self.old.book }
         ensures seen { IsPrefix self.old.log self.new.log }
@@ -135,8 +133,8 @@ impl Viewer {
         Ok(sight)
     }
 
-    /// The level of the process in the far store, in the board that a list of publications makes. The list begins with all
-    /// that this viewer saw before and was told of. Closed where the publisher is closed.
+    /// Returns the level of the process in the far store, in the board that a list of publications makes. The list begins with all that
+    /// this viewer saw or learned before. Errors: `Closed` if the publisher is closed.
     pub fn level(&mut self, proc: &Proc) -> Result<u64, Refusal>
         ensures book { self.new.book ≡ self.old.book }
         ensures seen { IsPrefix self.old.log self.new.log }
@@ -154,8 +152,8 @@ impl Viewer {
     }
 }
 
-/// Takes the place out and enters what is shown by it. Closed, and the place stands there, where what is shown does not go on from
-/// what was seen or told of.
+/// Takes the place out, and enters the shown board by it. Errors: `Closed`, with the place put back, if the shown list does not begin with
+/// the publications that the viewer saw or learned.
 fn enter_from(place: &mut Option<Place>, history: &History) -> Result<Entered, Refusal>
     requires place { IsSome place.old × IfSome place.old (λ p. IsOf history.now.book (known_at p.place)) }
     ensures place { IfOk result (λ r. IsOf history.now.book (known_at r.place)) }
@@ -177,7 +175,7 @@ fn enter_from(place: &mut Option<Place>, history: &History) -> Result<Entered, R
     }
 }
 
-/// Enters what is shown, where it goes on from what was seen or told of; else the place comes back.
+/// Enters the shown board, if its list begins with the publications that the viewer saw or learned; else returns the place.
 fn enter(place: Place, history: &History) -> Result<Entered, Place>
     requires { IsOf history.now.book (known_at place.place) }
     ensures place { IfOk result (λ r. IsOf history.now.book (known_at r.place)) }

@@ -1,4 +1,4 @@
--- What a job gives that threads ran: its journals, its reports and its transcripts.
+-- The result of a job that threads ran: its journals, its reports and its transcripts.
 use Rattle.std.specs.Prelude.{◌≡◌, ℕ, ◌+◌, List, [], ◌∷◌, length, map}
 use Rattle.pmg_value.specs.declared.process.Proc.{Proc}
 use Rattle.pmg_value.specs.declared.refusal.Refusal.{Refusal}
@@ -12,17 +12,17 @@ use Rattle.pmg_journal.specs.declared.transcript.Transcript.{Transcript}
 use Rattle.pmg_threads.specs.declared.program.Report.{Report}
 use Rattle.pmg_threads.specs.declared.program.Unaudited.{Unaudited}
 
--- each of the list fits its index, where the first has this index
+-- each element of the list fits its index, counted from the index of the first
 abbrev pub FitFrom : {X : Type 0} → (ℕ → X → Type 0) → ℕ → List X → Type 0
 FitFrom P n [] = Unit {0}
 FitFrom P n (x ∷ xs) = P n x × FitFrom P (n + 1) xs
 
--- there is one for each node of the group, by index, and each fits its node
+-- there is one element for each node of the group, by index, and each fits its node
 pub record OneEach {X : Type 0} (jobs : Jobs) (P : ℕ → X → Type 0) (xs : List X) : Type 0 where
   pub count : length xs ≡ length jobs.nodes
   pub fit : FitFrom P 0 xs
 
--- the desk is that of the group's node
+-- the desk belongs to that node of the group
 abbrev pub IsDeskOf : Jobs → ℕ → Desk → Type 0
 IsDeskOf jobs n d = (d.place.node ≡ n) × (d.place.registry ≡ jobs)
 
@@ -30,7 +30,7 @@ IsDeskOf jobs n d = (d.place.node ≡ n) × (d.place.registry ≡ jobs)
 abbrev pub AreDesks : Jobs → List Desk → Type 0
 AreDesks jobs ds = OneEach jobs (IsDeskOf jobs) ds
 
--- the journal is one that the group's node can make: each reply is that of a replay
+-- the journal is possible for the group's node: each reply is the reply of a replay
 abbrev pub IsNodeJournal : Jobs → ℕ → Journal → Type 0
 IsNodeJournal jobs n j = (j.node ≡ n) × (j.registry ≡ jobs) × IsJournal j
 
@@ -47,13 +47,13 @@ pub record TellAll (ps : List Proc) (rs : List Report) (ts : List Transcript) : 
 abbrev pub IsFull : Jobs → ℕ → Type 0
 IsFull jobs programs = programs ≡ length (all_procs jobs)
 
--- A job that was run gives, of its group, the journal of each node, and a report and a transcript of each process.
+-- The result of a job that was run: the journal of each node of its group, and a report and a transcript of each process.
 pub record IsUnaudited (group : Jobs) (u : Unaudited) : Type 0 where
   pub jobs : AreJobs group
   pub journals : AreNodeJournals group u.records.items
   pub told : TellAll (all_procs group) u.reports.items u.transcripts.items
 
--- A job that was run with so many programs may be refused so: BadParam where their number is not that of its processes, and only there;
+-- The refusals of a job that was run with so many programs: BadParam if and only if their number is not the number of its processes;
 -- Closed or NoMemory.
 abbrev pub IsRunRefusal : Jobs → ℕ → Refusal → Type 0
 IsRunRefusal jobs programs refusals.NoMemory = Unit {0}
@@ -61,7 +61,7 @@ IsRunRefusal jobs programs refusals.BadParam = IsFull jobs programs → ⊥
 IsRunRefusal jobs programs refusals.Closed = IsFull jobs programs
 IsRunRefusal jobs programs e = ⊥
 
--- the threads of a job's clients are refused so
+-- the refusals of the threads of a job's clients
 abbrev pub IsCutShort : Refusal → Type 0
 IsCutShort refusals.NoMemory = Unit {0}
 IsCutShort refusals.Closed = Unit {0}

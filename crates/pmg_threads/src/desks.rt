@@ -10,8 +10,8 @@ use pmg_value::NodeId;
 use std::alloc::{AllocError, Global};
 use std::sync::Wait;
 
-/// Opens the desks of the group's nodes, by index. The nodes of a job have few processes, so that a desk is refused for lack of memory
-/// only.
+/// Opens the desks of the group's nodes, by index. The nodes of a job have few processes. Therefore a desk is refused only for lack of
+/// memory.
 pub fn open_desks<R: Wait>(rt: &R, registry: &Registry) -> Result<Vec<Desk>, AllocError>
     ensures desks { IfOk result (λ desks. AreDesks registry.now desks.items) }
     ensures jobs { AreJobs registry.now }
@@ -52,7 +52,7 @@ pub fn close_desks<R: Wait>(rt: &R, desks: &[Desk]) {
     }
 }
 
-/// Whether one of the desks is closed.
+/// Returns whether one of the desks is closed.
 pub fn is_one_closed<R: Wait>(rt: &R, desks: &[Desk]) -> bool {
     for desk in desks {
         if desk.is_closed(rt) {
@@ -62,7 +62,8 @@ pub fn is_one_closed<R: Wait>(rt: &R, desks: &[Desk]) -> bool {
     false
 }
 
-/// Ends the desks: their journals in the same order, with what is known of them. All are ended, also where an allocation fails.
+/// Ends the desks, and returns their journals in the order of the desks, with the evidence of each. It ends all desks, also if an
+/// allocation fails.
 pub fn end_desks<R: Wait>(
     rt: &R,
     alloc: Global,

@@ -9,9 +9,9 @@ use std::alloc::{AllocError, Global};
 use std::marker::Send;
 use std::sync::Wait;
 
-/// Puts its address, the string `NS/RANK`, for all under `addr`, commits it, enters a collecting fence of all clients, looks for
-/// the addresses of all others, and reports `client NS RANK found N own L`, with its own level; or, where a call of it is
-/// refused, `client NS RANK refused N NAME`, and answers that refusal. The line is whole, or it is not there: then it answers
+/// A program that puts its address, the string `NS/RANK`, for all under `addr`, commits it, and enters a collecting fence of all clients.
+/// It then looks for the addresses of all others, and reports `client NS RANK found N own L`, with its own level. If a call is refused, it
+/// reports `client NS RANK refused N NAME`, and returns that refusal. The line is whole or missing: if it is missing, the program returns
 /// NoMemory.
 #[derive(Drop)]
 pub struct Exchange<R: Wait> {
@@ -19,7 +19,7 @@ pub struct Exchange<R: Wait> {
     alloc: Global,
 }
 
-/// What a client found: how many addresses of others, and its own level.
+/// The findings of a client: the number of addresses of others, and its own level.
 #[derive(Drop)]
 struct Found {
     others: u64,
@@ -27,7 +27,7 @@ struct Found {
 }
 
 impl<R: Wait> Exchange<R> {
-    /// The program, with the handle and the allocator that its calls use.
+    /// Makes the program, with the handle and the allocator that its calls use.
     pub fn new(rt: R, alloc: Global) -> Exchange<R> {
         Exchange { rt, alloc }
     }
@@ -76,7 +76,7 @@ fn put_address(alloc: Global, client: &mut Client<'_>, key: &Key) -> Result<(), 
     client.put(Scope::Global, key.copy()?, Value::string(alloc, &address)?)
 }
 
-/// The namespaces of these processes, which rise, each by one process that stands for all of it (PMIX_RANK_WILDCARD).
+/// Returns the namespaces of these rising processes, each as one process that represents all of it (PMIX_RANK_WILDCARD).
 fn whole_spaces(alloc: Global, procs: &[Proc]) -> Result<Vec<Proc>, AllocError> {
     let mut spaces: Vec<Proc> = Vec::new(alloc);
     for proc in procs {
@@ -88,7 +88,7 @@ fn whole_spaces(alloc: Global, procs: &[Proc]) -> Result<Vec<Proc>, AllocError> 
     Ok(spaces)
 }
 
-/// Whether the last of these is of the process's namespace.
+/// Returns whether the last of these is in the process's namespace.
 fn is_of_last(spaces: &[Proc], proc: &Proc) -> bool {
     match spaces.last() {
         Some(last) => last.nspace == proc.nspace,
@@ -96,13 +96,13 @@ fn is_of_last(spaces: &[Proc], proc: &Proc) -> bool {
     }
 }
 
-/// The client's own level.
+/// Returns the client's own level.
 fn own_level(client: &mut Client<'_>) -> Result<u64, Refusal> {
     let me = client.proc().copy()?;
     client.level_now(&me)
 }
 
-/// How many of the other processes have a value under the key.
+/// Counts the other processes with a value under the key.
 fn count_others(client: &mut Client<'_>, procs: &[Proc], key: &Key) -> Result<u64, Refusal>
     ensures { IfOk result (λ n. n ≤ length procs.now) }
 {
@@ -120,19 +120,19 @@ fn count_others(client: &mut Client<'_>, procs: &[Proc], key: &Key) -> Result<u6
     Ok(count)
 }
 
-/// The namespace, a sign between, and the rank, behind the text.
+/// Appends the namespace, the separator, and the rank to the text.
 fn push_proc(out: &mut Vec<u8>, proc: &Proc, between: &[u8]) -> Result<(), AllocError> {
     out.extend_from_slice(proc.nspace.as_bytes())?;
     out.extend_from_slice(between)?;
     push_number(out, u64::from(proc.rank.number()))
 }
 
-/// The address of the process behind the text, as `j/0`.
+/// Appends the address of the process to the text, as `j/0`.
 fn push_address(out: &mut Vec<u8>, proc: &Proc) -> Result<(), AllocError> {
     push_proc(out, proc, b"/")
 }
 
-/// The line of a client, behind the text.
+/// Appends the line of a client to the text.
 fn push_report(
     out: &mut Vec<u8>,
     proc: &Proc,
@@ -144,7 +144,7 @@ fn push_report(
     }
 }
 
-/// The line of a client that found others, behind the text.
+/// Appends the line of a client that found others to the text.
 fn push_found(out: &mut Vec<u8>, proc: &Proc, found: &Found) -> Result<(), AllocError> {
     out.extend_from_slice(b"client ")?;
     push_proc(out, proc, b" ")?;
@@ -156,7 +156,7 @@ fn push_found(out: &mut Vec<u8>, proc: &Proc, found: &Found) -> Result<(), Alloc
     Ok(())
 }
 
-/// The line of a client that was refused, behind the text.
+/// Appends the line of a refused client to the text.
 fn push_refused(out: &mut Vec<u8>, proc: &Proc, refusal: Refusal) -> Result<(), AllocError> {
     out.extend_from_slice(b"client ")?;
     push_proc(out, proc, b" ")?;

@@ -13,17 +13,17 @@ use std::sync::Wait;
 use std::time::{Clock, Duration};
 use std::{mem, thread};
 
-/// How bad the links of a job are; 0 means never. On each link, from one node to another, frames are counted from 1.
+/// The faults of a job's links; 0 means never. On each link, from one node to another, frames are counted from 1.
 #[derive(Clone, Copy, Default)]
 pub struct Links {
-    /// Each frame of such a number is lost.
+    /// Each frame whose number is a multiple of this is lost.
     pub lose: u32,
-    /// Each other one of such a number is sent twice.
+    /// Each other frame whose number is a multiple of this is sent twice.
     pub repeat: u32,
-    /// Each other one of such a number goes out after the next frame of its link.
+    /// Each other frame whose number is a multiple of this goes out after the next frame of its link.
     pub hold: u32,
-    /// How often each node asks others again for what is missing: a millisecond apart or later, and only while no frame is on its
-    /// way. After that every desk is closed, so that a job ends whose frames were lost.
+    /// The number of times that each node asks others again for missing data: a millisecond apart or later, and only while no frame is on
+    /// its way. After that every desk is closed, so that a job with lost frames ends.
     pub nudges: u32,
 }
 
@@ -34,7 +34,8 @@ pub struct Bundle {
     pub frames: Vec<Frame>,
 }
 
-/// One link: where its frames go, how many it was given, the one that it holds back, and those that go with its next bundle.
+/// One link: the destination of its frames, the number of frames that it took, the frame that it holds back, and the frames of its next
+/// bundle.
 #[derive(Drop)]
 struct Way {
     to: Sender<Bundle, Global>,
@@ -43,21 +44,21 @@ struct Way {
     ready: Vec<Frame>,
 }
 
-/// The ends of the links at one node: where its frames go, by the node's index, where those for it come from, and what all links
-/// carry.
+/// The ends of the links at one node: the destinations of its frames, by the node's index, the source of the frames for it, and the
+/// traffic of all links.
 #[derive(Drop)]
 pub struct Ends<'d> {
     /// The node's desk.
     pub desk: &'d Desk,
-    /// To each node.
+    /// The links to each node.
     pub(crate) to: Ways,
-    /// From all nodes.
+    /// The bundles from all nodes.
     pub from: Receiver<Bundle, Global>,
-    /// What is on its way, to all nodes.
+    /// The traffic to all nodes.
     pub(crate) traffic: Traffic,
 }
 
-/// What is on its way between nodes: the channels of all nodes, from which nothing is taken here.
+/// The traffic between nodes: the channels of all nodes, from which nothing is taken here.
 #[derive(Drop)]
 pub(crate) struct Traffic {
     channels: Vec<Receiver<Bundle, Global>>,
@@ -70,13 +71,13 @@ pub(crate) struct Ways {
     ways: Vec<Way>,
 }
 
-/// Whether the frame of that number is one that this happens to.
+/// Returns whether the fault applies to the frame of that number.
 fn is_hit(every: u32, count: u64) -> bool {
     every != 0 && count % u64::from(every) == 0
 }
 
 impl Way {
-    /// Carries one frame more over such a link. A frame that was held back goes after it.
+    /// Carries another frame over such a link. A frame that was held back goes after it.
     fn carry(&mut self, links: Links, frame: Frame) -> Result<(), AllocError> {
         self.count = self.count.wrapping_add(1);
         let before = self.held.take();
@@ -102,8 +103,8 @@ impl Way {
         Ok(())
     }
 
-    /// Gives the frames that are ready to the channel, if there are some. Errors: `Closed` if the node takes no more frames,
-    /// `NoMemory` if the channel cannot grow.
+    /// Gives the ready frames to the channel, if there are any. Errors: `Closed` if the node takes no more frames, `NoMemory` if the
+    /// channel cannot grow.
     fn give<R: Wait>(&mut self, rt: &R) -> Result<(), Refusal> {
         if self.ready.is_empty() {
             return Ok(());
@@ -119,8 +120,8 @@ impl Way {
 }
 
 impl Ways {
-    /// Carries the frames over the links to their nodes, those of one node together. Errors: `BadParam` if no link leads to a
-    /// frame's node, `NoMemory` if a link cannot keep a frame, and those of `Way::give`.
+    /// Carries the frames over the links to their nodes, those for one node together. Errors: `BadParam` if no link leads to a frame's
+    /// node, `NoMemory` if a link cannot keep a frame, and those of `Way::give`.
     fn carry<R: Wait>(&mut self, rt: &R, frames: VecDeque<Sent>) -> Result<(), Refusal> {
         for sent in frames {
             let Some(way) = self.ways.get_mut(sent.to.index() as usize) else {
@@ -131,7 +132,7 @@ impl Ways {
         self.give_all(rt)
     }
 
-    /// Gives what is ready on each link to its channel, up to the first that does not take it. Errors: those of `Way::give`.
+    /// Gives the ready frames of each link to its channel, up to the first channel that refuses them. Errors: those of `Way::give`.
     fn give_all<R: Wait>(&mut self, rt: &R) -> Result<(), Refusal> {
         for way in self.ways.iter_mut() {
             way.give(rt)?;
@@ -141,7 +142,7 @@ impl Ways {
 }
 
 impl Traffic {
-    /// The traffic over these channels.
+    /// Returns the traffic over these channels.
     fn over(alloc: Global, receivers: &[Receiver<Bundle, Global>]) -> Result<Traffic, AllocError> {
         let mut channels = Vec::with_capacity(alloc, receivers.len())?;
         for receiver in receivers {
@@ -150,18 +151,18 @@ impl Traffic {
         Ok(Traffic { channels })
     }
 
-    /// Another look at the traffic.
+    /// Returns another view of the traffic.
     fn copy(&self) -> Result<Traffic, AllocError> {
         Traffic::over(*self.channels.allocator(), &self.channels)
     }
 
-    /// Whether no bundle waits to be delivered.
+    /// Returns whether no bundle waits to be delivered.
     fn is_still(&self) -> bool {
         self.channels.iter().all(|channel| channel.is_empty())
     }
 }
 
-/// Links to where the senders send.
+/// Makes links to the destinations of the senders.
 fn ways_of(
     alloc: Global,
     senders: &[Sender<Bundle, Global>],
@@ -179,7 +180,7 @@ fn ways_of(
     Ok(Ways { links, ways })
 }
 
-/// The links among the desks, by the index of the node.
+/// Makes the links among the desks, by the index of the node.
 pub fn link_desks<'d>(
     alloc: Global,
     desks: &'d [Desk],
@@ -195,7 +196,7 @@ pub fn link_desks<'d>(
     join_ends(alloc, desks, &senders, receivers, links)
 }
 
-/// Each desk with its receiver, and with a link to each node.
+/// Joins each desk with its receiver, and with a link to each node.
 fn join_ends<'d>(
     alloc: Global,
     desks: &'d [Desk],
@@ -218,9 +219,9 @@ fn join_ends<'d>(
     Ok(ends)
 }
 
-/// Carries the frames that the desk's node sent to the links of their nodes, until the desk is closed or one cannot be carried.
-/// Then all desks are closed: clients of other nodes would wait for what this one tells no more. A channel takes no bundle where
-/// there is no memory for it.
+/// Carries the frames that the desk's node sent to the links of their nodes, until the desk is closed or a frame cannot be carried. Then
+/// it closes all desks, because clients of other nodes would wait for the missing frames of this node. A channel refuses a bundle if there
+/// is no memory for it.
 pub fn send_frames<R: Wait>(
     rt: &R,
     desks: &[Desk],
@@ -240,8 +241,7 @@ pub fn send_frames<R: Wait>(
     close_desks(rt, desks);
 }
 
-/// Delivers the frames that come for the desk's node, until no link brings more. Where one cannot be delivered all desks are
-/// closed.
+/// Delivers the frames that come for the desk's node, until no link brings more. If a frame cannot be delivered, it closes all desks.
 pub fn deliver_frames<R: Wait>(
     rt: &R,
     desks: &[Desk],
@@ -261,7 +261,7 @@ pub fn deliver_frames<R: Wait>(
     }
 }
 
-/// Waits a millisecond, and longer while a frame is on its way: it may bring what is missing, or ask for it. Returns at once after the
+/// Waits a millisecond, and longer while a frame is on its way: it may bring the missing data, or ask for it. Returns at once after the
 /// desk is closed.
 fn pause<R: Wait + Clock>(rt: &R, desk: &Desk, traffic: &Traffic) {
     for _ in rt.forever() {
@@ -272,8 +272,8 @@ fn pause<R: Wait + Clock>(rt: &R, desk: &Desk, traffic: &Traffic) {
     }
 }
 
-/// Tells the desk's node so many times, with a pause between two, to ask others again for what is missing, until the desk is closed.
-/// Then all desks are closed.
+/// Nudges the desk's node so many times, with a pause between two, to ask others again for missing data, until the desk is closed. Then it
+/// closes all desks.
 pub fn nudge_desk<R: Wait + Clock>(
     rt: &R,
     desks: &[Desk],

@@ -1,4 +1,4 @@
-//! What the clients of a job run, and what comes of it.
+//! The programs that the clients of a job run, and their results.
 ghost use Rattle.std.specs.Prelude.{◌++◌, ◌∷◌, [], List, OnOk};
 ghost use Rattle.pmg_value.specs.declared.process.Proc.{Proc as AnyProc};
 ghost use Rattle.pmg_threads.specs.Running.{TellAll};
@@ -9,11 +9,11 @@ use pmg_value::{Proc, Refusal};
 use std::alloc::{AllocError, Global};
 use std::marker::Send;
 
-/// What one client of a job runs.
+/// The program of one client of a job.
 pub trait Program: Send + Drop {
-    /// Runs as the client, among these processes of the job, rising by namespace and rank. What it puts behind `out` is its
-    /// report. A client whose program answers a refusal is terminated. A client whose program answers Ok is not: who waits for it in a
-    /// fence waits on.
+    /// Runs as the client, among these processes of the job, rising by namespace and rank. The bytes that it appends to `out` are its
+    /// report. A client is terminated if its program returns a refusal. A client whose program returns Ok is not terminated: a process
+    /// that waits for it in a fence continues to wait.
     fn run(
         &mut self,
         client: &mut Client<'_>,
@@ -22,18 +22,18 @@ pub trait Program: Send + Drop {
     ) -> Result<(), Refusal>;
 }
 
-/// What came of one client.
+/// The result of one client.
 #[derive(Drop)]
 pub struct Report {
     /// The client's process.
     pub proc: Proc,
-    /// What its program wrote.
+    /// The text that its program wrote.
     pub text: Vec<u8>,
-    /// What its program answered.
+    /// The answer of its program.
     pub answer: Result<(), Refusal>,
 }
 
-/// What came of one client: what its program wrote and answered, and what the client called. Whose it is, the launcher knows.
+/// The result of one client: its program's text and answer, and the client's calls. The launcher knows the client.
 #[derive(Drop)]
 pub(crate) struct Ended {
     pub(crate) text: Vec<u8>,
@@ -43,7 +43,7 @@ pub(crate) struct Ended {
     pub(crate) is_cut: bool,
 }
 
-/// What the clients of a job report, and what they called.
+/// The reports and the calls of a job's clients.
 #[derive(Drop)]
 pub(crate) struct Reported {
     pub(crate) reports: Vec<Report>,
@@ -53,7 +53,7 @@ pub(crate) struct Reported {
 }
 
 impl Reported {
-    /// Nothing is reported yet.
+    /// Makes an empty list of reports.
     pub(crate) fn new(alloc: Global) -> Reported
         ensures { TellAll [] result.reports.items result.transcripts.items }
     {
@@ -64,7 +64,7 @@ impl Reported {
         }
     }
 
-    /// Adds what came of the client of the process.
+    /// Adds the result of the process's client.
     pub(crate) fn push(&mut self, proc: &Proc, ended: Ended) -> Result<(), AllocError>
         ensures { (procs : List AnyProc) → TellAll procs self.old.reports.items self.old.transcripts.items
             → OnOk result (TellAll (procs ++ proc.now ∷ []) self.new.reports.items self.new.transcripts.items) }
@@ -90,13 +90,13 @@ impl Reported {
     }
 }
 
-/// What came of a job that was not audited yet.
+/// The result of a job before its audit.
 #[derive(Drop)]
 pub struct Unaudited {
     /// The reports of the clients, rising by namespace and rank.
     pub reports: Vec<Report>,
-    /// What happened at each node, by index, with what is known of it.
+    /// The record of each node, by index, with its evidence.
     pub records: Vec<Record>,
-    /// What each client called, in the order of the reports.
+    /// The calls of each client, in the order of the reports.
     pub transcripts: Vec<Transcript>,
 }

@@ -1,4 +1,4 @@
-//! A job is run: its desks, the threads of its links and of its clients.
+//! The run of a job: its desks, the threads of its links and of its clients.
 ghost use Rattle.std.specs.Prelude.{◌≡◌, length, map, IfErr, IfOk, vec_len};
 ghost use Rattle.pmg_jobinfo.specs.Jobs.{AreJobs};
 ghost use Rattle.pmg_desk.specs.Clients.{proc_of};
@@ -19,19 +19,18 @@ use std::thread;
 use std::thread::{JoinHandle, Threads};
 use std::time::Clock;
 
-/// What the thread of one client has to do.
+/// The work of the thread of one client.
 #[derive(Drop)]
 struct Work<'d> {
     program: Box<dyn Program>,
     client: Client<'d>,
 }
 
-/// Runs the job over such links, with these programs for its processes, which rise by namespace and rank: a thread a client, two a
-/// node for the links, and one a node that asks other nodes again, where the links say so. Once all clients have ended, what they
-/// report is told, and what an audit needs: the journals of the nodes, with what is known of them, and the transcripts of the
-/// clients. Refused as BadParam where the number of programs is not that of the processes; as NoMemory where an allocation failed
-/// that a desk cannot go on without, or a thread cannot be started; and as Closed where a desk was closed for another cause before
-/// all clients had ended.
+/// Runs the job over such links, with these programs for its processes, which rise by namespace and rank. It runs a thread for each client
+/// and two for the links of each node. If the links have nudges, it runs another thread a node, which asks other nodes again. Once all
+/// clients have ended, it returns their reports and the input of an audit: the journals of the nodes, with their evidence, and the
+/// transcripts of the clients. Errors: `BadParam` if there is not one program for each process; `NoMemory` if an allocation failed that a
+/// desk needs to continue, or a thread cannot be started; `Closed` if a desk was closed for another cause before all clients had ended.
 pub fn run_unaudited<R: Threads + Wait + Clock + Sync>(
     rt: &R,
     job: Job,
@@ -84,7 +83,7 @@ fn run_group<R: Threads + Wait + Clock + Sync>(
     run_threads(rt, alloc, desks, procs, ends, links.nudges, work)
 }
 
-/// The work of each client, by process.
+/// Makes the work of each client, by process.
 fn share_out<'d, R: Wait>(
     rt: &R,
     registry: &Registry,
@@ -105,8 +104,8 @@ fn share_out<'d, R: Wait>(
     Ok(work)
 }
 
-/// The work of the process's client, which runs the program. No desk is closed yet, and the process is at home at its desk and has no
-/// other client, so that its desk refuses it for lack of memory only.
+/// Makes the work of the process's client, which runs the program. No desk is closed yet, and the process is at home at its desk and has
+/// no other client. Therefore its desk refuses it only for lack of memory.
 fn work_of<'d, R: Wait>(
     rt: &R,
     registry: &Registry,
@@ -180,8 +179,8 @@ fn run_threads<R: Threads + Wait + Clock + Sync>(
     judge(reported, shortage.is_noted(rt))
 }
 
-/// What was reported, where no desk was closed before all clients had ended. Else NoMemory where an allocation failed in a call of a
-/// client, or in one of the links, which is known once these have ended; and Closed where a desk was closed for another cause.
+/// Returns the reports, if no desk was closed before all clients had ended. Errors: `NoMemory` if an allocation failed in a call of a
+/// client or in a link, which is known once these have ended; `Closed` if a desk was closed for another cause.
 fn judge(reported: Reported, is_noted: bool) -> Result<Reported, Refusal>
     ensures same { IfOk result (λ r. r ≡ reported) }
     ensures refused { IfErr result IsCutShort }
@@ -195,8 +194,8 @@ fn judge(reported: Reported, is_noted: bool) -> Result<Reported, Refusal>
     Err(Refusal::Closed)
 }
 
-/// Runs the clients, a thread each: what they report and what they called, once all have ended, and whether a desk was closed before.
-/// Where a thread cannot be started every desk is closed.
+/// Runs the clients, a thread each. Once all have ended, it returns their reports and calls, and whether a desk was closed before. If a
+/// thread cannot be started, it closes every desk.
 fn tell_clients<R: Threads + Wait + Sync>(
     rt: &R,
     alloc: Global,
@@ -232,7 +231,7 @@ fn tell_clients<R: Threads + Wait + Sync>(
     )
 }
 
-/// Closes the desks, where the clients of a job cannot all be started, so that those that were started end.
+/// Closes the desks if not all clients of a job can be started, so that the started clients end.
 fn give_up<R: Wait>(rt: &R, desks: &[Desk]) -> AllocError {
     close_desks(rt, desks);
     AllocError
@@ -256,15 +255,15 @@ fn join_clients<R: Threads>(
     Ok(reported)
 }
 
-/// Whether an allocation failed in a call of a client.
+/// Returns whether an allocation failed in a call of a client.
 fn is_short(reports: &[Report]) -> bool {
     reports
         .iter()
         .any(|report| report.answer == Err(Refusal::NoMemory))
 }
 
-/// Runs the program of one client. Where it answers a refusal the client is terminated. A desk that is closed later than each client
-/// looks at the desks, as its last act, was closed after all clients had ended.
+/// Runs the program of one client, and terminates the client if the program returns a refusal. As its last act, each client looks at the
+/// desks. A desk that is closed later was closed after all clients had ended.
 fn run_client<R: Wait>(
     rt: &R,
     alloc: Global,
@@ -289,7 +288,7 @@ fn run_client<R: Wait>(
     }
 }
 
-/// Terminates the client; where that is refused, every desk is closed, and the answer tells of an allocation that failed.
+/// Terminates the client. If the termination is refused, it closes every desk. If an allocation failed in it, the answer becomes NoMemory.
 fn terminate<R: Wait>(
     rt: &R,
     desks: &[Desk],

@@ -15,26 +15,26 @@ impl Drop for Shortage {
 }
 
 impl Shortage {
-    /// None failed so far.
+    /// Makes the note of a run without a failed allocation so far.
     pub fn new() -> Shortage {
         Shortage {
             is_noted: Mutex::new(false),
         }
     }
 
-    /// One failed.
+    /// Notes that an allocation failed.
     pub fn note<R: Wait>(&self, rt: &R) {
         *self.is_noted.lock(rt) = true;
     }
 
-    /// One failed, if that is why a call was refused.
+    /// Notes that an allocation failed, if the call was refused for that reason.
     pub fn note_refusal<R: Wait>(&self, rt: &R, refusal: Refusal) {
         if refusal == Refusal::NoMemory {
             self.note(rt);
         }
     }
 
-    /// Whether one failed.
+    /// Returns whether an allocation failed.
     pub fn is_noted<R: Wait>(&self, rt: &R) -> bool {
         *self.is_noted.lock(rt)
     }

@@ -1,4 +1,4 @@
--- What is told of a world in code.
+-- The account of a world in code.
 use Rattle.std.specs.Prelude.{◌≡◌, ℕ, ◌<◌, List, ◌++◌, length, map, slice_index_or, refl}
 use Rattle.std.specs.Coded.{Coded, code_by, coded×, coded_list}
 use Rattle.pmg_jobinfo.specs.Jobs.{Jobs, coded_jobs}
@@ -20,45 +20,45 @@ pub record Account : Type 0 where
   pub sent : List Sent
   pub told : List LoggedEvent
 
--- a world in code as a tuple, by the codes of a frame that is sent and of an event with its answer
+-- a world in code as a tuple, by the codes of a sent frame and of an event with its answer
 abbrev pub coded_account : Coded Sent → Coded LoggedEvent → Coded Account
 coded_account coded_sent coded_told =
     code_by (Jobs × (List Server × (List Sent × List LoggedEvent))) (coded× coded_jobs (coded× (coded_list coded_server) (coded× (coded_list coded_sent) (coded_list coded_told))))
     (λ a. (a.jobs, (a.nodes, (a.sent, a.told)))) (λ p. record { jobs = p.0; nodes = p.1.0; sent = p.1.1.0; told = p.1.1.1 }) (λ _. refl)
 
--- what a group tells, of which this was told
+-- the account of a group, with these events
 abbrev pub account_of : Group → List LoggedEvent → Account
 account_of g told = record { jobs = g.registry; nodes = g.nodes.items; sent = g.sent.items; told = told }
 
--- the events lead from the start to a world that the group stands for
+-- the events lead from the start to a world that the group represents
 unfoldable pub IsLedBy : Group → List Happened → Type 0
 IsLedBy g told = (w : World) × Run g.registry (start g.registry) told w × Represents g w
 
--- the events told do
+-- the recorded events lead to such a world
 abbrev pub IsLed : Group → List LoggedEvent → Type 0
 IsLed g told = IsLedBy g (map happened_of told)
 
--- The events told lead from the start to the world; its nodes hold what these hold, and these frames are all that were sent.
+-- The recorded events lead from the start to the world. Its nodes have the states of these nodes, and these frames are all sent frames.
 pub record LeadsTo (a : Account) (w : World) : Type 0 where
   pub run : Run a.jobs (start a.jobs) (map happened_of a.told) w
   pub count : length a.nodes ≡ length a.jobs.nodes
   pub nodes : (node : ℕ) (d : Server) → node < length a.nodes → IsNodeOf a.jobs node (w.nodes node) (slice_index_or a.nodes node d)
   pub sent : a.sent ≡ w.sent
 
--- what is told is a run of the model
+-- the recorded events are a run of the model
 unfoldable pub IsRun : Account → Type 0
 IsRun a = (w : World) × LeadsTo a w
 
--- the laws of every run hold of what is told, and of each beginning of it
+-- the laws of every run hold for the recorded events, and for each prefix of them
 unfoldable pub IsAccountLawful : Account → Type 0
 IsAccountLawful a = (xs ys : List Happened) → map happened_of a.told ≡ xs ++ ys → IsLawful a.jobs xs
 
--- what was told before, and these events, each once and in their order, each with its answer
+-- the events recorded before, and these events, each once and in their order, each with its answer
 unfoldable pub Adds : List LoggedEvent → List ToldEvent → List LoggedEvent → Type 0
 Adds old events new = (more : List LoggedEvent) × (new ≡ old ++ more) × (map (λ t. event_of t.event) more ≡ map event_of events)
 
--- The new world goes on from where the old one stood: more is told after what was told, more frames are sent after those that were
--- sent, and each run of the model that led to the old world goes on by what is told more, and then leads to the new one.
+-- The new world continues the old one: its events extend the old events, and its sent frames extend the old frames. Each run of the model
+-- that led to the old world continues by the new events, and then leads to the new world.
 pub record GoesOn (old new : Account) : Type 0 where
   pub more : List LoggedEvent
   pub told : new.told ≡ old.told ++ more

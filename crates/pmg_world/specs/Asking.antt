@@ -1,4 +1,4 @@
--- What a line of a script asks of the world.
+-- The request of a script's line to the world.
 use Rattle.std.specs.Prelude.{ℕ, Bool, true, false, ◌&&◌, List, Option, Some, None, if◌then◌else◌}
 use Rattle.std.specs.List.{list_all}
 use Rattle.pmg_value.specs.Names.{is_nspace, is_key}
@@ -13,8 +13,8 @@ use Rattle.pmg_group_model.specs.Worlds.{Event}
 use Rattle.pmg_world.specs.declared.asking.LineAsk.{LineAsk as AskedFor}
 use Rattle.pmg_world.specs.declared.asking.LineAsk.TheVariants as asked
 
--- What is asked of the world: that something happens; something that is refused, since a name in the line is none; that all frames
--- are delivered that never were; the members of a set, as a node knows them; a node's dump.
+-- A request to the world. It is an event, or a request that is refused, since the line has an invalid name. Else it is the delivery of all
+-- frames that were never delivered, the members of a set, as a node knows them, or a node's dump.
 pub data LineAsk : Type 0 where
   happens : Event → LineAsk
   unnamed : LineAsk
@@ -22,7 +22,7 @@ pub data LineAsk : Type 0 where
   members : ℕ → List ℕ → LineAsk
   dump : ℕ → LineAsk
 
--- what is asked, as code holds it
+-- the meaning of the code's request
 abbrev pub asked_of : AskedFor → LineAsk
 asked_of (asked.Event e) = LineAsk.happens (event_of e)
 asked_of asked.Unnamed = LineAsk.unnamed
@@ -38,11 +38,11 @@ has_named_nspace p = is_nspace p.nspace
 abbrev pub are_named : List Proc → Bool
 are_named ps = list_all has_named_nspace ps
 
--- it happens, where the names in the line are such
+-- the event, if the names in the line are valid
 abbrev pub if_named : Bool → Event → LineAsk
 if_named names e = if names then LineAsk.happens e else LineAsk.unnamed
 
--- what a process asks of the node that it is at home at
+-- the request of a process to its home node
 abbrev pub at_home : Jobs → Proc → Request → Event
 at_home jobs p r = Event.request (home_of jobs p) r
 
@@ -55,7 +55,7 @@ abbrev pub is_get : Line → Bool
 is_get (Line.get p mode target key) = true
 is_get _ = false
 
--- What a line asks; nothing is asked of the world by a line that names nodes or registers a namespace, and by an empty one.
+-- The request of a line. A line that names nodes or registers a namespace, and an empty line, have no request to the world.
 unfoldable pub line_asks : Jobs → Line → Option LineAsk
 line_asks jobs (Line.put p scope value key) = Some (if_named (has_named_nspace p && is_key key) (Event.put p scope key (spelling value)))
 line_asks jobs (Line.commit p) = Some (if_named (has_named_nspace p) (Event.commit (home_of jobs p) p))

@@ -1,4 +1,4 @@
--- The worlds that a group of nodes in code stands for, and what an event does to them.
+-- The worlds that a group of nodes in code represents, and the effect of an event on them.
 use Rattle.std.specs.Prelude.{◌≡◌, ℕ, ◌<◌, true, false, List, length, Result, slice_index_or}
 use Rattle.pmg_value.specs.Lists.{Each}
 use Rattle.pmg_value.specs.Names.{is_reserved}
@@ -19,30 +19,30 @@ use Rattle.pmg_caches.specs.Caching.{AllCached, cached_for}
 use Rattle.pmg_group_model.specs.Worlds.{World, Event, Happened, Step, cache_of}
 use Rattle.pmg_world.specs.declared.group.Group.{Group}
 
--- What is kept for a process is its client's cache; the standard's own processes have none, and no put that is not sealed.
+-- The state kept for a process is its client's cache. The standard's own processes have an empty cache, and no unsealed put.
 pub record KeepsFor (p : Proc) (c : Cached) (s : Script) : Type 0 where
   pub client : is_reserved p.nspace ≡ false → c ≡ cache_of s
   pub none : is_reserved p.nspace ≡ true → c ≡ no_puts
   pub sealed : is_reserved p.nspace ≡ true → unsealed_of (cache_of s) ≡ unsealed_of no_puts
 
--- so it is for all processes
+-- each process's cache belongs to its script
 abbrev pub AreCaches : AllCached → Scripts → Type 0
 AreCaches caches scripts = (p : Proc) → KeepsFor p (cached_for caches p) (scripts p)
 
--- the server is that of the node, and holds this
+-- the server is the server of the node, and has this state
 pub record IsNodeOf (jobs : Jobs) (node : ℕ) (h : NodeState) (s : Server) : Type 0 where
   pub jobs_same : s.jobs ≡ jobs
   pub id_same : s.id ≡ node
   pub holds : s.holding ≡ h
 
--- the servers are those of all nodes, in their order, and hold this
+-- the servers are the servers of all nodes, in their order, and have these states
 pub record AreNodes (jobs : Jobs) (items : List Server) (nodes : ℕ → NodeState) : Type 0 where
   pub count : length items ≡ length jobs.nodes
   pub each : (node : ℕ) (d : Server) → node < length items → IsNodeOf jobs node (nodes node) (slice_index_or items node d)
   pub servers : (node : ℕ) → node < length items → IsServer jobs node (nodes node)
 
--- The group stands for the world: its nodes hold what they hold there, its clients' caches are those of the scripts, and the frames
--- are those sent, each to a node of the group.
+-- The group represents the world: its nodes have their states there, and its clients' caches belong to the scripts. Its frames are the
+-- sent frames, each to a node of the group.
 pub record Represents (g : Group) (w : World) : Type 0 where
   pub jobs : AreJobs g.registry
   pub nodes : AreNodes g.registry g.nodes.items w.nodes
@@ -50,33 +50,33 @@ pub record Represents (g : Group) (w : World) : Type 0 where
   pub sent : g.sent.items ≡ w.sent
   pub peers : Each (λ s. is_node g.registry s.to ≡ true) g.sent.items
 
--- two groups that hold the same
+-- two groups with equal contents
 pub record IsSame (old new : Group) : Type 0 where
   pub jobs : new.registry ≡ old.registry
   pub nodes : new.nodes.items ≡ old.nodes.items
   pub caches : new.caches ≡ old.caches
   pub sent : new.sent.items ≡ old.sent.items
 
--- it stands for some world
+-- the group represents some world
 unfoldable pub IsGroup : Group → Type 0
 IsGroup g = (w : World) × Represents g w
 
--- what is answered, as a reply
+-- the answer, as a reply
 abbrev pub replied : Result GivenReply Refusal → Reply
 replied answer = reply_in reply_as answer
 
--- an event, with what it was answered as its reply
+-- an event, with its answer as its reply
 abbrev pub happened_so : Event → Result GivenReply Refusal → Happened
 happened_so e answer = record { event = e; reply = replied answer }
 
--- Whatever world the old group stands for: the event leads from it, with that answer, to one that the new group stands for.
+-- For each world that the old group represents: the event leads from it, with that answer, to a world that the new group represents.
 unfoldable pub Happens : Group → Event → Result GivenReply Refusal → Group → Type 0
 Happens old e answer new =
     IsAnswered answer → (new.registry ≡ old.registry) × ((w : World) → Represents old w → (v : World) × Step old.registry w e (replied answer) v × Represents new v)
 
 -- ---- a new group
 
--- the servers are new ones, of so many nodes
+-- these are new servers, of so many nodes
 pub record AreNew (jobs : Jobs) (count : ℕ) (servers : List Server) : Type 0 where
   pub count_is : length servers ≡ count
   pub each : (node : ℕ) (d : Server) → node < count → slice_index_or servers node d ≡ new_server jobs node

@@ -13,22 +13,22 @@ use Rattle.pmg_node_model.specs.Acts.{Reply}
 unfoldable pub proc_text : Proc → List ℕ
 proc_text p = p.nspace ++ (codes "/" ++ decimal p.rank)
 
--- processes, with commas between them; `-` where there is none
+-- processes, with commas between them; `-` for an empty list
 unfoldable pub list_text : List Proc → List ℕ
 list_text [] = codes "-"
 list_text (p ∷ ps) = join_by proc_text (codes ",") (p ∷ ps)
 
--- the text of what was read as a value
+-- the text of a decoded value
 abbrev pub found_text : Result Value Fault → List ℕ
 found_text (Ok v) = text_of v
 found_text (Err f) = []
 
--- what was done with a set
+-- the words for the change of a set
 abbrev pub change_text : Bool → List ℕ
 change_text true = codes "deleted "
 change_text false = codes "defined "
 
--- The line of a reply, where it is known whether a set's deletion was asked for. Of a value its canonical bytes are known.
+-- The line of a reply. The flag says whether the request was the deletion of a set. A value is given by its canonical bytes.
 unfoldable pub reply_line : Bool → Reply → List ℕ
 reply_line deletes (Reply.refused e) = codes "refused " ++ (refusal_text e ++ codes "\n")
 reply_line deletes Reply.done = codes "ok\n"
@@ -44,10 +44,10 @@ reply_line deletes Reply.ignored = codes "delivered 1\n"
 reply_line deletes (Reply.ended n) = codes "ended " ++ (decimal n ++ codes "\n")
 reply_line deletes (Reply.defined n) = change_text deletes ++ (decimal n ++ codes "\n")
 
--- the line that says how many frames were delivered
+-- the line with the number of delivered frames
 unfoldable pub flow_line : ℕ → List ℕ
 flow_line count = codes "delivered " ++ (decimal count ++ codes "\n")
 
--- the line that tells the members of a set
+-- the line with the members of a set
 unfoldable pub members_line : List Proc → List ℕ
 members_line members = codes "members " ++ (list_text members ++ codes "\n")

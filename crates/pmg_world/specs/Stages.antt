@@ -1,4 +1,4 @@
--- What a script does: each line's reply, and what there is after it.
+-- The meaning of a script: each line's reply, and the state after it.
 use Rattle.std.specs.Prelude.{◌≡◌, ℕ, Bool, true, false, List, [], ◌∷◌, length, map, slice_get, Option, Some, None, Result, Ok, Err, if◌then◌else◌}
 use Rattle.std.specs.FinSet as set
 use Rattle.std.specs.List.{filter_map}
@@ -30,7 +30,7 @@ use Rattle.pmg_world.specs.declared.phase.Phase.TheVariants as phases
 
 -- ---- replies
 
--- the line of what was done, where nothing else is told of it
+-- the line of a done request without other result
 abbrev pub ok_line : List ℕ
 ok_line = reply_line false Reply.done
 
@@ -38,24 +38,24 @@ ok_line = reply_line false Reply.done
 abbrev pub refused_line : Refusal → List ℕ
 refused_line e = reply_line false (Reply.refused e)
 
--- a set's deletion was asked for
+-- the event is the deletion of a set
 abbrev pub is_deletion : Event → Bool
 is_deletion (Event.request node (Request.delete name)) = true
 is_deletion _ = false
 
--- ---- what is asked of the world
+-- ---- the requests to the world
 
 -- the event happens, with that reply
 abbrev pub HappensOnce : GroupState → Event → Reply → GroupState → Type 0
 HappensOnce w e reply v = Happen w (record { event = e; reply = reply } ∷ []) v
 
--- the event happens, and the line is that of its reply
+-- the event happens, and the line is the line of its reply
 pub record AnswersLine (w : GroupState) (e : Event) (text : List ℕ) (v : GroupState) : Type 0 where
   pub reply : Reply
   pub happened : HappensOnce w e reply v
   pub line : text ≡ reply_line (is_deletion e) reply
 
--- all frames are delivered that never were, of those that were sent, each once and in their order; the line tells how many
+-- all sent frames that were never delivered are delivered, each once and in their order; the line has their number
 pub record Flows (w : GroupState) (text : List ℕ) (v : GroupState) : Type 0 where
   pub more : List Happened
   pub asked : map (λ h. h.event) more ≡ map Event.deliver (undelivered w.delivered (length w.sent))
@@ -66,7 +66,7 @@ pub record Flows (w : GroupState) (text : List ℕ) (v : GroupState) : Type 0 wh
 abbrev pub server_at : GroupState → ℕ → Option Server
 server_at w node = if is_node w.jobs node then slice_get w.nodes node else None
 
--- the process that the element of an array is
+-- the process that the element of an array holds
 abbrev pub proc_element : Plain → Option Proc
 proc_element (Plain.proc p) = Some p
 proc_element _ = None
@@ -75,12 +75,12 @@ proc_element _ = None
 abbrev pub proc_elements : List Plain → List Proc
 proc_elements plains = filter_map proc_element plains
 
--- the processes of an array; none, where the value is no array or was not read
+-- the processes of an array; empty if the value is no array or was not decoded
 abbrev pub procs_in_value : Result Value Fault → List Proc
 procs_in_value (Ok (values.Array a)) = proc_elements a.plains
 procs_in_value _ = []
 
--- the line of a set's members, or of why there are none
+-- the line of a set's members, or the line of the refusal
 abbrev pub members_reply : Result (List ℕ) Refusal → List ℕ
 members_reply (Ok bytes) = members_line (procs_in_value (whole_value bytes))
 members_reply (Err e) = refused_line e
@@ -90,12 +90,12 @@ abbrev pub members_text : Option Server → List ℕ → List ℕ
 members_text None name = refused_line refusals.BadParam
 members_text (Some s) name = members_reply (first_of (known_members_cause s.holding.far name) (members_known s.holding.far name))
 
--- the dump of what the node tells others
+-- the dump of the node's knowledge for others
 abbrev pub dump_at : Option Server → List ℕ
 dump_at None = refused_line refusals.BadParam
 dump_at (Some s) = dump s.holding.far
 
--- How the world answers what is asked of it, and what it is then.
+-- The world's answer to a request, and its state afterwards.
 unfoldable pub Performs : GroupState → LineAsk → List ℕ → GroupState → Type 0
 Performs w (LineAsk.happens e) text v = AnswersLine w e text v
 Performs w LineAsk.unnamed text v = (text ≡ refused_line refusals.BadParam) × (v ≡ w)
@@ -127,36 +127,36 @@ abbrev pub sent_at : Phase → Option (List Sent)
 sent_at (phases.Running w) = Some w.sent
 sent_at _ = None
 
--- a world of these jobs in which nothing happened
+-- a world of these jobs without events
 pub record IsNew (jobs : Jobs) (w : GroupState) : Type 0 where
   pub jobs_are : w.jobs ≡ jobs
   pub sent : w.sent ≡ []
   pub delivered : w.delivered ≡ set.empty
   pub stands : IsStateAfter w [] (start jobs)
 
--- the world answers what the line asks of it
+-- the world answers the line's request
 pub record Runs (w : GroupState) (line : Line) (text : List ℕ) (v : GroupState) : Type 0 where
   pub asked : LineAsk
   pub asks : line_asks w.jobs line ≡ Some asked
   pub performs : Performs w asked text v
 
--- nothing is asked of it
+-- the line has no request to the world
 unfoldable pub AsksNothing : GroupState → Line → Type 0
 AsksNothing w line = line_asks w.jobs line ≡ None
 
--- it does so, and runs on
+-- the world answers the line's request, and continues to run
 pub record RunsOn (w : GroupState) (line : Line) (text : List ℕ) (v : Phase) : Type 0 where
   pub after : GroupState
   pub runs : Runs w line text after
   pub left : v ≡ phases.Running after
 
--- a new world does so
+-- a new world answers the line's request
 pub record Starts (jobs : Jobs) (line : Line) (text : List ℕ) (v : Phase) : Type 0 where
   pub world : GroupState
   pub is_new : IsNew jobs world
   pub runs : RunsOn world line text v
 
--- Before all other lines that say something, one names the nodes.
+-- One line names the nodes, before all other lines with content.
 unfoldable pub OpensAt : Phase → List (List ℕ) → List ℕ → Phase → Type 0
 OpensAt phases.Fresh names text v = Opens (first_of (new_cause names) (opened names)) text v
 OpensAt _ names text v = ⊥
@@ -172,27 +172,27 @@ RunsAt (phases.Registering jobs) line text v = Starts jobs line text v
 RunsAt (phases.Running w) line text v = RunsOn w line text v
 RunsAt _ line text v = ⊥
 
--- what a line does, by what it says
+-- the effect of a line, by its content
 unfoldable pub Plays : Phase → Line → List ℕ → Phase → Type 0
 Plays s Line.nothing text v = (text ≡ []) × (v ≡ s)
 Plays s (Line.nodes names) text v = OpensAt s names text v
 Plays s (Line.space nspace homes) text v = RegistersAt s nspace homes text v
 Plays s line text v = RunsAt s line text v
 
--- what a line does that says this; where it has no form that lines have, nothing is what it does
+-- the effect of a line with this content; a line of no known form has no effect
 abbrev pub PlaysSaid : Phase → Option Line → List ℕ → Phase → Type 0
 PlaysSaid s None text v = ⊥
 PlaysSaid s (Some line) text v = Plays s line text v
 
--- What a line does, by its content: from one phase, with a reply, to another.
+-- The effect of a line, by its content: from one phase, with a reply, to another.
 unfoldable pub PlaysLine : Phase → List ℕ → List ℕ → Phase → Type 0
 PlaysLine s content text v = PlaysSaid s (said content) text v
 
--- A line is none that has no form of a script's lines, or stands out of its order: nothing is what it does.
+-- A line stops the script if it has no form of a script's lines, or is out of its order: it has no effect.
 unfoldable pub StopsLine : Phase → List ℕ → Type 0
 StopsLine s content = (text : List ℕ) (v : Phase) → PlaysLine s content text v → ⊥
 
--- No line is done after a refusal of the nodes' names.
+-- No line is carried out after a refusal of the nodes' names.
 abbrev pub is_over : Phase → Bool
 is_over phases.Over = true
 is_over _ = false

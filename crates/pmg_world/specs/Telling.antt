@@ -1,4 +1,4 @@
--- What happens in a world, as code names it.
+-- The meaning of the code's events in a world.
 use Rattle.pmg_value.specs.Spelling.{spelling}
 use Rattle.pmg_node.specs.Acting.{request_of, reply_as}
 use Rattle.pmg_node.specs.Servers.{reply_in}
@@ -7,7 +7,7 @@ use Rattle.pmg_world.specs.declared.event.Event.{Event as ToldEvent}
 use Rattle.pmg_world.specs.declared.event.Event.TheVariants as events
 use Rattle.pmg_world.specs.declared.event.LoggedEvent.{LoggedEvent}
 
--- what happens
+-- the meaning of the code's event
 abbrev pub event_of : ToldEvent → Event
 event_of (events.Put p scope key value) = Event.put p scope key (spelling value)
 event_of (events.Commit node p) = Event.commit node p

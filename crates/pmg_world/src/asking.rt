@@ -1,4 +1,4 @@
-//! What a line of a script asks of the world, where the names in it are judged.
+//! The request of a script's line to the world, after the names in the line are judged.
 ghost use Rattle.std.specs.Prelude.{◌≡◌, ◌&&◌, true, false, IfOk, IfSome, IsNone, IsTrue, Some, if◌then◌else◌};
 ghost use Rattle.pmg_value.specs.Names.{is_key};
 ghost use Rattle.pmg_value.specs.Spelling.{spelling};
@@ -17,17 +17,17 @@ use pmg_script::{Line, LineFault, Named};
 use pmg_value::{Key, Nspace, Proc, Value, is_key_text, is_nspace_name};
 use std::alloc::{AllocError, Global};
 
-/// What a line asks of the world.
+/// The request of a line to the world.
 pub(crate) enum LineAsk {
-    /// This happens.
+    /// An event.
     Event(Event),
-    /// Something that is refused, since a name in the line is none.
+    /// A request that is refused, since the line has an invalid name.
     Unnamed,
-    /// Each frame is delivered that never was.
+    /// The delivery of each frame that was never delivered.
     Flow,
-    /// The members of the set are told, as the node knows them.
+    /// The members of the set, as the node knows them.
     Members(u64, Key),
-    /// The node's dump is told.
+    /// The node's dump.
     Dump(u64),
 }
 
@@ -44,14 +44,14 @@ impl Drop for LineAsk {
     }
 }
 
-/// Whether the process's namespace has a name.
+/// Returns whether the process's namespace has a valid name.
 fn is_named(proc: &Named<'_>) -> bool
     ensures { result ≡ has_named_nspace proc.now }
 {
     is_nspace_name(proc.nspace)
 }
 
-/// Whether the namespace of each has a name.
+/// Returns whether the namespace of each has a valid name.
 fn are_named(procs: &[Named<'_>]) -> bool
     ensures { result ≡ are_named procs.now }
 {
@@ -63,14 +63,14 @@ fn are_named(procs: &[Named<'_>]) -> bool
     true
 }
 
-/// Whether the names in a get are names.
+/// Returns whether the names in a get are valid.
 pub(crate) fn is_named_get(proc: &Named<'_>, target: &Named<'_>, key: &[u8]) -> bool
     ensures { result ≡ (has_named_nspace proc.now && has_named_nspace target.now && is_key key.now) }
 {
     is_named(proc) && is_named(target) && is_key_text(key)
 }
 
-/// The process of a name that was judged.
+/// Returns the process of a name that was judged.
 pub(crate) fn proc_of(alloc: Global, named: &Named<'_>) -> Result<Proc, AllocError>
     requires { IsTrue (has_named_nspace named.now) }
     ensures { IfOk result (λ p. p ≡ named.now) }
@@ -82,7 +82,7 @@ pub(crate) fn proc_of(alloc: Global, named: &Named<'_>) -> Result<Proc, AllocErr
     })
 }
 
-/// The processes of names that were judged.
+/// Returns the processes of names that were judged.
 fn procs_of(alloc: Global, named: &[Named<'_>]) -> Result<Vec<Proc>, AllocError>
     requires { IsTrue (are_named named.now) }
     ensures { IfOk result (λ ps. ps.items ≡ named.now) }
@@ -94,14 +94,14 @@ fn procs_of(alloc: Global, named: &[Named<'_>]) -> Result<Vec<Proc>, AllocError>
     Ok(procs)
 }
 
-/// The index of the node that the process is at home at.
+/// Returns the index of the process's home node.
 pub(crate) fn home_of(registry: &Registry, proc: &Proc) -> u64
     ensures { result ≡ home_of registry.now proc.now }
 {
     u64::from(registry.home_of(proc).index())
 }
 
-/// The process of the name with the index of its home, where its namespace has a name.
+/// Returns the process of the name with the index of its home, if its namespace has a valid name.
 fn proc_at_home(
     alloc: Global,
     registry: &Registry,
@@ -118,7 +118,7 @@ fn proc_at_home(
     Ok(Some((home_of(registry, &proc), proc)))
 }
 
-/// `put NS RANK SCOPE HEX KEY`
+/// Returns the request of `put NS RANK SCOPE HEX KEY`.
 fn ask_put(
     alloc: Global,
     proc: &Named<'_>,
@@ -136,7 +136,7 @@ fn ask_put(
     Ok(LineAsk::Event(Event::Put(proc, scope, key, value)))
 }
 
-/// `commit NS RANK`
+/// Returns the request of `commit NS RANK`.
 fn ask_commit(alloc: Global, registry: &Registry, proc: &Named<'_>) -> Result<LineAsk, LineFault>
     ensures { ReadsAllWords asked_of result (Some (if_named (has_named_nspace proc.now) (ModelEvent.commit (home_of registry.now proc.now) proc.now))) }
 {
@@ -146,7 +146,7 @@ fn ask_commit(alloc: Global, registry: &Registry, proc: &Named<'_>) -> Result<Li
     Ok(LineAsk::Event(Event::Commit(home, proc)))
 }
 
-/// `enter NS RANK plain` or `collect`, then pairs `NS RANK`
+/// Returns the request of `enter NS RANK plain` or `collect`, followed by pairs `NS RANK`.
 fn ask_enter(
     alloc: Global,
     registry: &Registry,
@@ -165,7 +165,7 @@ fn ask_enter(
     Ok(LineAsk::Event(Event::Request(home, Request::Enter(proc, list, collect))))
 }
 
-/// `leave NS RANK`
+/// Returns the request of `leave NS RANK`.
 fn ask_leave(alloc: Global, registry: &Registry, proc: &Named<'_>) -> Result<LineAsk, LineFault>
     ensures { ReadsAllWords asked_of result (Some (if_named (has_named_nspace proc.now) (at_home registry.now proc.now (ModelRequest.leave proc.now)))) }
 {
@@ -175,7 +175,7 @@ fn ask_leave(alloc: Global, registry: &Registry, proc: &Named<'_>) -> Result<Lin
     Ok(LineAsk::Event(Event::Request(home, Request::Leave(proc))))
 }
 
-/// `take NS RANK`
+/// Returns the request of `take NS RANK`.
 fn ask_take(alloc: Global, registry: &Registry, proc: &Named<'_>) -> Result<LineAsk, LineFault>
     ensures { ReadsAllWords asked_of result (Some (if_named (has_named_nspace proc.now) (at_home registry.now proc.now (ModelRequest.take proc.now)))) }
 {
@@ -185,7 +185,7 @@ fn ask_take(alloc: Global, registry: &Registry, proc: &Named<'_>) -> Result<Line
     Ok(LineAsk::Event(Event::Request(home, Request::Take(proc))))
 }
 
-/// `end NS RANK`
+/// Returns the request of `end NS RANK`.
 fn ask_end(alloc: Global, registry: &Registry, proc: &Named<'_>) -> Result<LineAsk, LineFault>
     ensures { ReadsAllWords asked_of result (Some (if_named (has_named_nspace proc.now) (at_home registry.now proc.now (ModelRequest.terminate proc.now)))) }
 {
@@ -195,7 +195,7 @@ fn ask_end(alloc: Global, registry: &Registry, proc: &Named<'_>) -> Result<LineA
     Ok(LineAsk::Event(Event::Request(home, Request::Terminate(proc))))
 }
 
-/// `define M`, so many pairs `NS RANK`, `NAME`
+/// Returns the request of `define M`, followed by M pairs `NS RANK` and `NAME`.
 fn ask_define(alloc: Global, list: &[Named<'_>], name: &[u8]) -> Result<LineAsk, LineFault>
     ensures { ReadsAllWords asked_of result (Some (if_named (are_named list.now && is_key name.now) (ModelEvent.request sets_node (ModelRequest.define name.now list.now)))) }
 {
@@ -207,7 +207,7 @@ fn ask_define(alloc: Global, list: &[Named<'_>], name: &[u8]) -> Result<LineAsk,
     Ok(LineAsk::Event(Event::Request(0, Request::Define(name, list))))
 }
 
-/// `delete NAME`
+/// Returns the request of `delete NAME`.
 fn ask_delete(alloc: Global, name: &[u8]) -> Result<LineAsk, LineFault>
     ensures { ReadsAllWords asked_of result (Some (if_named (is_key name.now) (ModelEvent.request sets_node (ModelRequest.delete name.now)))) }
 {
@@ -218,7 +218,7 @@ fn ask_delete(alloc: Global, name: &[u8]) -> Result<LineAsk, LineFault>
     Ok(LineAsk::Event(Event::Request(0, Request::Delete(name))))
 }
 
-/// `members NODE NAME`
+/// Returns the request of `members NODE NAME`.
 fn ask_members(alloc: Global, node: u64, name: &[u8]) -> Result<LineAsk, LineFault>
     ensures { ReadsAllWords asked_of result (Some (if is_key name.now then ModelAsked.members node name.now else ModelAsked.unnamed)) }
 {
@@ -228,7 +228,7 @@ fn ask_members(alloc: Global, node: u64, name: &[u8]) -> Result<LineAsk, LineFau
     Ok(LineAsk::Members(node, Key::from_text(alloc, name)?))
 }
 
-/// What the line, which asks for no key, asks of the world of these jobs. It is malformed where it asks nothing of it.
+/// Returns the request of the line, which is not a get, to the world of these jobs. A line without a request to the world is malformed.
 #[tactic(auto, unfolding(crate::specs::Asking::line_asks))]
 pub(crate) fn ask(alloc: Global, registry: &Registry, line: &Line<'_>) -> Result<LineAsk, LineFault>
     requires { is_get (line_of line.now) ≡ false }

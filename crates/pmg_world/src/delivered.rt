@@ -1,4 +1,4 @@
-//! Which of the frames ever sent were delivered.
+//! The delivered frames, among all frames ever sent.
 ghost use Rattle.std.specs.Prelude.{◌≡◌, ◌<◌, ◌≤◌, ◌∷◌, [], ℕ, true, None, OnOk};
 ghost use Rattle.std.specs.FinSet as set;
 ghost use Rattle.pmg_world.specs.Delivering.{AddsDelivered, all_delivered, delivered_by, is_number};
@@ -11,17 +11,17 @@ use pmg_node::Reply;
 use pmg_value::Refusal;
 use std::alloc::{AllocError, Global};
 
-/// Which of the frames ever sent were delivered. The last one is put to the others before the next event, so that an event that has
-/// happened takes no memory any more.
+/// The delivered frames, among all frames ever sent. The last one joins the others before the next event, so that an event that has
+/// happened needs no more memory.
 #[derive(Drop)]
 pub(crate) struct Delivered {
-    /// The numbers of those that were delivered before the last event.
+    /// The numbers of the frames that were delivered before the last event.
     frames: RangeSet,
-    /// The number of the one that the last event delivered, if it did.
+    /// The number of the frame that the last event delivered, if it did.
     last: Option<u64>,
 }
 
-/// The number of the frame that the event delivers, where it is answered so, if it does.
+/// Returns the number of the frame that the event delivers, if it delivers one with this answer.
 #[tactic(auto, using(crate::proofs::GroupLemmas::no_refusal))]
 fn frame_of(event: &Event, answer: &Result<Reply, Refusal>) -> Option<u64>
     ensures { (frame : ℕ) → delivered_by frame (happened_so (event_of event.now) answer.now) ≡ is_number frame result }
@@ -33,7 +33,7 @@ fn frame_of(event: &Event, answer: &Result<Reply, Refusal>) -> Option<u64>
 }
 
 impl Delivered {
-    /// No frame was.
+    /// Makes an empty set of delivered frames.
     pub(crate) fn new(alloc: Global) -> Delivered
         ensures { all_delivered result ≡ set.empty }
     {
@@ -43,7 +43,7 @@ impl Delivered {
         }
     }
 
-    /// Puts the last one to the others, so that there is room for another last one.
+    /// Adds the last frame to the others, so that there is room for another last one.
     pub(crate) fn make_room(&mut self) -> Result<(), AllocError>
         ensures same { AddsDelivered (all_delivered self.old) [] (all_delivered self.new) }
         ensures room { OnOk result (self.new.last ≡ None) }
@@ -55,7 +55,7 @@ impl Delivered {
         Ok(())
     }
 
-    /// The event was answered so: there is room for the frame that it delivered.
+    /// Notes the event with its answer: there is room for the frame that it delivered.
     pub(crate) fn note(&mut self, event: &Event, answer: &Result<Reply, Refusal>)
         requires { self.old.last ≡ None }
         ensures { AddsDelivered (all_delivered self.old) (happened_so (event_of event.now) answer.now ∷ []) (all_delivered self.new) }
@@ -63,14 +63,14 @@ impl Delivered {
         self.last = frame_of(event, answer);
     }
 
-    /// Whether the frame of that number was delivered.
+    /// Returns whether the frame of that number was delivered.
     pub(crate) fn contains(&self, frame: u64) -> bool
         ensures { result ≡ set.contains (all_delivered self.now) frame }
     {
         self.frames.contains(frame) || self.last == Some(frame)
     }
 
-    /// A number up to which all frames were delivered, from 1.
+    /// Returns a number up to which all frames were delivered, from 1.
     pub(crate) fn level(&self) -> u64
         ensures { (n : ℕ) → 0 < n → n ≤ result → set.contains (all_delivered self.now) n ≡ true }
     {

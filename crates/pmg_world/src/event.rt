@@ -1,4 +1,4 @@
-//! What happens in a group, and what it was answered with.
+//! The events of a group, and their answers.
 ghost use Rattle.std.specs.Prelude.{◌≡◌, IfOk};
 ghost use Rattle.pmg_world.specs.Telling.{event_of};
 
@@ -7,13 +7,13 @@ use pmg_scope::Scope;
 use pmg_value::{Key, Proc, Refusal, Value};
 use std::alloc::AllocError;
 
-/// What happens in a group. Nodes are named by their indexes.
+/// An event of a group. It names nodes by their indexes.
 pub enum Event {
-    /// The process puts the value under the key, to be seen as the scope says (PMIx Standard 5.0, PMIx_Put).
+    /// The process puts the value under the key, visible as the scope says (PMIx Standard 5.0, PMIx_Put).
     Put(Proc, Scope, Key, Value),
-    /// At the node, the process commits what it put (PMIx Standard 5.0, PMIx_Commit).
+    /// At the node, the process commits its puts (PMIx Standard 5.0, PMIx_Commit).
     Commit(u64, Proc),
-    /// At the node, this is asked for.
+    /// At the node, the request is made.
     Request(u64, Request),
     /// The frame of that number is delivered, among all frames ever sent, from 1.
     Deliver(u64),
@@ -32,7 +32,7 @@ impl Drop for Event {
 }
 
 impl Event {
-    /// A copy, the same event.
+    /// Returns an equal copy.
     pub fn copy(&self) -> Result<Event, AllocError>
         ensures { IfOk result (λ e. event_of e ≡ event_of self.now) }
     {
@@ -49,9 +49,9 @@ impl Event {
 
 /// An event, with its answer.
 pub struct LoggedEvent {
-    /// What happened.
+    /// The event.
     pub event: Event,
-    /// What it was answered with.
+    /// Its answer.
     pub answer: Result<Reply, Refusal>,
 }
 

@@ -25,7 +25,7 @@ use pmg_value::{Key, NodeId, Proc, Refusal, Value};
 use std::alloc::AllocError;
 use std::collections::VecDeque;
 
-/// The nodes of a group, what their clients put, and all frames ever sent.
+/// The nodes of a group, the puts of their clients, and all frames ever sent.
 pub(crate) struct Group {
     pub(crate) registry: Registry,
     pub(crate) nodes: Vec<Server>,
@@ -44,7 +44,7 @@ impl Drop for Group {
     }
 }
 
-/// Whether an allocation failed.
+/// Returns whether an allocation failed.
 pub(crate) fn is_short(answer: &Result<Reply, Refusal>) -> bool
     ensures short { result ≡ true → answer.now ≡ Err refusals.NoMemory }
     ensures answered { result ≡ false → IsAnswered answer.now }
@@ -55,7 +55,7 @@ pub(crate) fn is_short(answer: &Result<Reply, Refusal>) -> bool
     }
 }
 
-/// A new node for each that the registry has.
+/// Makes a new node for each node of the registry.
 fn new_nodes(registry: &Registry) -> Result<Vec<Server>, AllocError>
     ensures new { IfOk result (λ nodes. AreNew registry.now (length registry.now.nodes) nodes.items) }
     ensures jobs { AreJobs registry.now }
@@ -69,7 +69,7 @@ fn new_nodes(registry: &Registry) -> Result<Vec<Server>, AllocError>
 }
 
 impl Group {
-    /// A new group: nobody has called, and nothing was sent.
+    /// Makes a new group, without calls and without sent frames.
     pub(crate) fn new(registry: &Registry) -> Result<Group, AllocError>
         ensures jobs { IfOk result (λ g. g.registry ≡ registry.now) }
         ensures stands { IfOk result (λ g. Represents g (start registry.now)) }
@@ -83,14 +83,14 @@ impl Group {
         })
     }
 
-    /// The node of that index, if the group has one.
+    /// Returns the node of that index, if the group has one.
     pub(crate) fn node(&self, node: NodeId) -> Option<&Server>
         ensures { option_map (λ n. n.now) result ≡ slice_get self.now.nodes.items node }
     {
         self.nodes.get(node.index() as usize)
     }
 
-    /// An act of the node of that index, whose frames are sent.
+    /// Performs an act of the node of that index, and sends its frames.
     fn act_at(&mut self, index: usize, act: &Act) -> Result<Reply, Refusal>
         requires { index < length self.old.nodes.items }
         ensures reply { (d : Server) → RepliesAct reply_as result (slice_index_or self.old.nodes.items index d) (act_of act.now) }
@@ -105,7 +105,7 @@ impl Group {
         self.nodes[index].act(act, &mut self.sent)
     }
 
-    /// This is asked for at the node of that index; the frames that it sends are sent.
+    /// Makes the request at the node of that index, and sends the node's frames.
     fn request_at(&mut self, index: usize, request: &Request) -> Result<Reply, Refusal>
         requires { index < length self.old.nodes.items }
         ensures reply { (d : Server) → RepliesAct reply_as result (slice_index_or self.old.nodes.items index d) (ModelAct.request (request_of request.now)) }
@@ -120,7 +120,7 @@ impl Group {
         self.nodes[index].request(request, &mut self.sent)
     }
 
-    /// The index of the process's home.
+    /// Returns the index of the process's home.
     fn home_of(&self, proc: &Proc) -> usize
         requires { IsGroup self.now }
         ensures value { result ≡ home_of self.now.registry proc.now }
@@ -129,7 +129,7 @@ impl Group {
         self.registry.home_of(proc).index() as usize
     }
 
-    /// The process puts the value under the key.
+    /// Puts the value under the key, for the process.
     fn put(&mut self, proc: &Proc, scope: Scope, key: &Key, value: &Value) -> Result<Reply, Refusal>
         requires { IsGroup self.old }
         ensures step { Happens self.old (ModelEvent.put proc.now scope key.now (spelling value.now)) result self.new }
@@ -148,7 +148,7 @@ impl Group {
         }
     }
 
-    /// At the node of that index, the process commits what it put.
+    /// Commits the puts of the process, at the node of that index.
     fn commit(&mut self, index: u64, proc: &Proc) -> Result<Reply, Refusal>
         requires { IsGroup self.old }
         ensures step { Happens self.old (ModelEvent.commit index proc.now) result self.new }
@@ -167,7 +167,7 @@ impl Group {
         }
     }
 
-    /// A key of the target is asked for at the node of that index; the frames that it sends are sent.
+    /// Asks for a key of the target at the node of that index, and sends the node's frames.
     fn get_at(
         &mut self,
         index: usize,
@@ -192,7 +192,7 @@ impl Group {
         self.nodes[index].get(proc, target, key, mode, &mut self.sent)
     }
 
-    /// At the node of that index, the process asks for a key of the target.
+    /// Asks for a key of the target at the node of that index, for the process.
     pub(crate) fn get(
         &mut self,
         index: u64,
@@ -214,7 +214,7 @@ impl Group {
         self.get_at(index as usize, proc, target, key, mode)
     }
 
-    /// At the node of that index, something else is asked for than a key.
+    /// Makes a request at the node of that index that does not ask for a process's own key.
     fn request_other(&mut self, index: u64, request: &Request) -> Result<Reply, Refusal>
         requires group { IsGroup self.old }
         requires other { own_key (request_of request.now) ≡ None }
@@ -227,7 +227,7 @@ impl Group {
         self.request_at(index as usize, request)
     }
 
-    /// At the node of that index, this is asked for.
+    /// Makes the request at the node of that index.
     fn request(&mut self, index: u64, request: &Request) -> Result<Reply, Refusal>
         requires { IsGroup self.old }
         ensures step { Happens self.old (ModelEvent.request index (request_of request.now)) result self.new }
@@ -239,7 +239,7 @@ impl Group {
         }
     }
 
-    /// The frame of that number is delivered.
+    /// Delivers the frame of that number.
     fn deliver(&mut self, number: u64) -> Result<Reply, Refusal>
         requires { IsGroup self.old }
         ensures step { Happens self.old (ModelEvent.deliver number) result self.new }
@@ -253,7 +253,8 @@ impl Group {
         self.act_at(to.index() as usize, &Act::Deliver(frame))
     }
 
-    /// What happens, and its answer. NoMemory where an allocation failed; then nothing happened.
+    /// Performs the event, and returns its answer. Errors: `NoMemory` if an allocation failed, and then nothing happened; else the refusal
+    /// of the event.
     pub(crate) fn happen(&mut self, event: &Event) -> Result<Reply, Refusal>
         requires { IsGroup self.old }
         ensures step { Happens self.old (event_of event.now) result self.new }

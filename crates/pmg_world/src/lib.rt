@@ -1,4 +1,4 @@
-//! A group of nodes and their processes in code, each run of which is a run of the model, and scripts on it.
+//! A group of nodes and their processes in code, and scripts for it. Each run of the group is a run of the model.
 #![tactic(auto)]
 
 mod asking;

@@ -1,8 +1,8 @@
-//! How far a script has come.
+//! The progress of a script.
 use crate::scene::Scene;
 use pmg_jobinfo::Registry;
 
-/// How far a script has come.
+/// The progress of a script.
 pub(crate) enum Phase {
     /// No line has named the nodes.
     Fresh,
@@ -10,7 +10,7 @@ pub(crate) enum Phase {
     Registering(Registry),
     /// The world runs.
     Running(Scene),
-    /// The names of the nodes were refused: no line is done any more.
+    /// The names of the nodes were refused: no further line is carried out.
     Over,
 }
 

@@ -1,4 +1,4 @@
-//! The reply lines of a script, in memory: each is written into the room of one before, in the place of what stands there.
+//! The reply lines of a script, in memory: each is written into the room of an earlier line, and replaces it.
 ghost use Rattle.std.specs.Prelude.{◌≡◌, ◌++◌, Bool, codes, decimal, IfOk, OnOk};
 ghost use Rattle.std.specs.List.{flat_map};
 ghost use Rattle.pmg_value.specs.RefusalText.{refusal_text};
@@ -14,7 +14,7 @@ use pmg_node::Reply;
 use pmg_value::{Proc, Refusal, Value, WatchedWriter, WriteFault, push_number};
 use std::alloc::AllocError;
 
-/// The line of a reply; whether a set's deletion was asked for.
+/// Writes the line of a reply. The flag says whether the request was the deletion of a set.
 pub fn reply_line(
     room: Vec<u8>,
     deletes: bool,
@@ -28,7 +28,7 @@ pub fn reply_line(
     }
 }
 
-/// The line of a refusal.
+/// Writes the line of a refusal.
 #[tactic(auto, unfolding(crate::specs::ReplyLines::reply_line))]
 pub fn refusal_line(room: Vec<u8>, refusal: &Refusal) -> Result<Vec<u8>, AllocError>
     ensures { IfOk result (λ line. (deletes : Bool) → line.items ≡ reply_line deletes (ModelReply.refused refusal.now)) }
@@ -39,7 +39,7 @@ pub fn refusal_line(room: Vec<u8>, refusal: &Refusal) -> Result<Vec<u8>, AllocEr
     Ok(line)
 }
 
-/// A line with the text of a refusal behind it.
+/// Appends the text of a refusal to a line.
 fn with_refusal(line: Vec<u8>, refusal: &Refusal) -> Result<Vec<u8>, AllocError>
     ensures { IfOk result (λ text. text.items ≡ line.items ++ refusal_text refusal.now) }
 {
@@ -50,7 +50,7 @@ fn with_refusal(line: Vec<u8>, refusal: &Refusal) -> Result<Vec<u8>, AllocError>
     }
 }
 
-/// The line of a reply that is no refusal.
+/// Writes the line of a reply that is not a refusal.
 #[tactic(auto, unfolding(crate::specs::ReplyLines::reply_line))]
 fn answer_line(room: Vec<u8>, deletes: bool, reply: &Reply) -> Result<Vec<u8>, AllocError>
     ensures { IfOk result (λ line. line.items ≡ reply_line deletes (reply_as reply.now)) }
@@ -71,14 +71,14 @@ fn answer_line(room: Vec<u8>, deletes: bool, reply: &Reply) -> Result<Vec<u8>, A
     }
 }
 
-/// What was done with a set.
+/// Returns the words for the change of a set.
 fn change_text(deletes: bool) -> &'static [u8]
     ensures { result.now ≡ change_text deletes }
 {
     if deletes { b"deleted " } else { b"defined " }
 }
 
-/// A line that begins so.
+/// Begins a line with the text.
 fn line_of(room: Vec<u8>, text: &[u8]) -> Result<Vec<u8>, AllocError>
     ensures { IfOk result (λ line. line.items ≡ text.now) }
 {
@@ -95,7 +95,7 @@ fn end_line(line: &mut Vec<u8>) -> Result<(), AllocError>
     line.extend_from_slice(b"\n")
 }
 
-/// The line of a number, after these words.
+/// Writes the line of a number, after these words.
 fn number_line(room: Vec<u8>, words: &[u8], number: u64) -> Result<Vec<u8>, AllocError>
     ensures { IfOk result (λ line. line.items ≡ words.now ++ (decimal number ++ codes "\n")) }
 {
@@ -105,7 +105,7 @@ fn number_line(room: Vec<u8>, words: &[u8], number: u64) -> Result<Vec<u8>, Allo
     Ok(line)
 }
 
-/// The line of a release.
+/// Writes the line of a release.
 fn released_line(room: Vec<u8>, instance: u64, gone: &[Proc]) -> Result<Vec<u8>, AllocError>
     ensures { IfOk result (λ line. line.items ≡ codes "released " ++ (decimal instance ++ (codes " gone " ++ (list_text gone.now ++ codes "\n")))) }
 {
@@ -117,7 +117,7 @@ fn released_line(room: Vec<u8>, instance: u64, gone: &[Proc]) -> Result<Vec<u8>,
     Ok(line)
 }
 
-/// The line of a value.
+/// Writes the line of a value.
 fn found_line(room: Vec<u8>, value: &Value) -> Result<Vec<u8>, AllocError>
     ensures { IfOk result (λ line. line.items ≡ codes "found " ++ (found_text (whole_value (spelling value.now)) ++ codes "\n")) }
 {
@@ -127,7 +127,7 @@ fn found_line(room: Vec<u8>, value: &Value) -> Result<Vec<u8>, AllocError>
     Ok(line)
 }
 
-/// A line with the text of a value behind it.
+/// Appends the text of a value to a line.
 fn with_value(line: Vec<u8>, value: &Value) -> Result<Vec<u8>, AllocError>
     ensures text { IfOk result (λ text. text.items ≡ line.items ++ text_of value.now) }
     ensures is { OnOk result (IsValue value.now) }
@@ -139,7 +139,7 @@ fn with_value(line: Vec<u8>, value: &Value) -> Result<Vec<u8>, AllocError>
     }
 }
 
-/// The line that says how many frames were delivered.
+/// Writes the line with the number of delivered frames.
 #[tactic(auto, unfolding(crate::specs::ReplyLines::flow_line))]
 pub fn flow_line(room: Vec<u8>, count: u64) -> Result<Vec<u8>, AllocError>
     ensures { IfOk result (λ line. line.items ≡ flow_line count) }
@@ -147,7 +147,7 @@ pub fn flow_line(room: Vec<u8>, count: u64) -> Result<Vec<u8>, AllocError>
     number_line(room, b"delivered ", count)
 }
 
-/// The line that tells the members of a set.
+/// Writes the line with the members of a set.
 #[tactic(auto, unfolding(crate::specs::ReplyLines::members_line))]
 pub fn members_line(room: Vec<u8>, members: &[Proc]) -> Result<Vec<u8>, AllocError>
     ensures { IfOk result (λ line. line.items ≡ members_line members.now) }
@@ -158,7 +158,7 @@ pub fn members_line(room: Vec<u8>, members: &[Proc]) -> Result<Vec<u8>, AllocErr
     Ok(line)
 }
 
-/// Puts a process behind a text.
+/// Appends a process to a text.
 #[tactic(auto, unfolding(crate::specs::ReplyLines::proc_text))]
 fn push_proc(text: &mut Vec<u8>, proc: &Proc) -> Result<(), AllocError>
     ensures { OnOk result (text.new.items ≡ text.old.items ++ proc_text proc.now) }
@@ -168,7 +168,7 @@ fn push_proc(text: &mut Vec<u8>, proc: &Proc) -> Result<(), AllocError>
     push_number(text, u64::from(proc.rank.number()))
 }
 
-/// Puts processes behind a text, with commas between them, or `-` where there is none.
+/// Appends processes to a text, with commas between them, or `-` for an empty list.
 #[tactic(auto, unfolding(crate::specs::ReplyLines::list_text))]
 fn push_list(text: &mut Vec<u8>, procs: &[Proc]) -> Result<(), AllocError>
     ensures { OnOk result (text.new.items ≡ text.old.items ++ list_text procs.now) }
@@ -180,7 +180,7 @@ fn push_list(text: &mut Vec<u8>, procs: &[Proc]) -> Result<(), AllocError>
     push_others(text, others)
 }
 
-/// Puts processes behind a text, with a comma before each.
+/// Appends processes to a text, with a comma before each.
 fn push_others(text: &mut Vec<u8>, procs: &[Proc]) -> Result<(), AllocError>
     ensures { OnOk result (text.new.items ≡ text.old.items ++ flat_map (λ p. codes "," ++ proc_text p) procs.now) }
 {

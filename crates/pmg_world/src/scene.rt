@@ -1,4 +1,4 @@
-//! A world that a script plays on, with what was delivered in it.
+//! A world that a script plays on, with the frames that were delivered in it.
 ghost use Rattle.std.specs.Prelude.{◌≡◌, ◌<◌, IfOk, OnOk};
 ghost use Rattle.std.specs.Option.{option_map};
 ghost use Rattle.pmg_value.specs.Items.{items_in};
@@ -32,8 +32,8 @@ use std::alloc::{AllocError, Global};
 use std::collections::VecDeque;
 use std::marker::Model;
 
-/// A group that runs, and which of its frames were delivered. Whatever happens, some run of the model leads to the state that it is in,
-/// and the laws of every run hold of each that does. What happened is not kept.
+/// A group that runs, with its delivered frames. After every event, some run of the model leads to its state, and the laws of every run
+/// hold for each such run. The events are not kept.
 pub(crate) struct Scene {
     group: Group,
     delivered: Delivered,
@@ -59,7 +59,7 @@ impl Model for Scene {
     ghost invariant = { λ a. IsPlayed a.group (all_delivered a.delivered) };
 }
 
-/// Whether the event is a set's deletion.
+/// Returns whether the event is a set's deletion.
 fn is_deletion(event: &Event) -> bool
     ensures { result ≡ is_deletion (event_of event.now) }
 {
@@ -69,7 +69,7 @@ fn is_deletion(event: &Event) -> bool
     }
 }
 
-/// The process that the item of an array is.
+/// Returns the process that the item of an array holds.
 fn proc_in(item: &Value) -> Option<&Proc>
     ensures { option_map (λ p. p.now) result ≡ proc_element (plain_of (form item.now)) }
 {
@@ -79,7 +79,7 @@ fn proc_in(item: &Value) -> Option<&Proc>
     }
 }
 
-/// The processes among the items of an array.
+/// Returns the processes among the items of an array.
 fn procs_in(alloc: Global, items: Items<'_>) -> Result<Vec<Proc>, AllocError>
     ensures { IfOk result (λ procs. procs.items ≡ proc_elements (plains_of (items_in items.entry))) }
 {
@@ -93,14 +93,14 @@ fn procs_in(alloc: Global, items: Items<'_>) -> Result<Vec<Proc>, AllocError>
     Ok(procs)
 }
 
-/// The processes of an array.
+/// Returns the processes of an array.
 fn procs_of(alloc: Global, members: &Array) -> Result<Vec<Proc>, AllocError>
     ensures { IfOk result (λ procs. procs.items ≡ procs_in_value (whole_value (spelling (values.Array members.now)))) }
 {
     procs_in(alloc, members.items())
 }
 
-/// The dump of a store.
+/// Returns the dump of a store.
 fn dump_of(alloc: Global, store: &Store) -> Result<Vec<u8>, AllocError>
     ensures { IfOk result (λ text. text.items ≡ dump store.now) }
 {
@@ -111,7 +111,7 @@ fn dump_of(alloc: Global, store: &Store) -> Result<Vec<u8>, AllocError>
     }
 }
 
-/// The line of what is answered; there is none where an allocation failed.
+/// Writes the line of the answer. A failed allocation has no line.
 fn line_of_answer(
     room: Vec<u8>,
     is_deletion: bool,
@@ -127,7 +127,7 @@ fn line_of_answer(
 }
 
 impl Scene {
-    /// A world of these jobs, in which nothing happened.
+    /// Makes a world of these jobs, without events.
     pub(crate) fn new(alloc: Global, registry: &Registry) -> Result<Scene, AllocError>
         ensures { IfOk result (λ scene. IsNew registry.now scene) }
     {
@@ -137,21 +137,21 @@ impl Scene {
         })
     }
 
-    /// The registry of the group.
+    /// Returns the registry of the group.
     pub(crate) fn registry(&self) -> &Registry
         ensures { result.now ≡ self.now.jobs }
     {
         &self.group.registry
     }
 
-    /// Returns all frames ever sent, each with the node that it was sent to, in their order.
+    /// Returns all frames ever sent, each with its receiver, in their order.
     pub(crate) fn sent(&self) -> &VecDeque<Sent>
         ensures { result.now.items ≡ self.now.sent }
     {
         &self.group.sent
     }
 
-    /// What is asked of the world is done, and answered with the text of its reply.
+    /// Performs the request to the world, and returns the text of its reply.
     #[tactic(auto, unfolding(crate::specs::Stages::Performs))]
     pub(crate) fn perform(
         &mut self,
@@ -170,14 +170,14 @@ impl Scene {
         }
     }
 
-    /// The event happens, and is answered with the line of its reply.
+    /// Performs the event, and returns the line of its reply.
     fn happen(&mut self, room: Vec<u8>, event: &Event) -> Result<Vec<u8>, AllocError>
         ensures { IfOk result (λ text. AnswersLine self.old (event_of event.now) text.items self.new) }
     {
         line_of_answer(room, is_deletion(event), &self.step(event))
     }
 
-    /// At the node of that index, the process asks for a key of the target, and is answered with the line of its reply.
+    /// Asks for a key of the target at the node of that index, for the process, and returns the line of its reply.
     pub(crate) fn get(
         &mut self,
         room: Vec<u8>,
@@ -192,7 +192,7 @@ impl Scene {
         line_of_answer(room, false, &self.ask(index, proc, target, key, mode))
     }
 
-    /// The process asks for the key next, and its answer.
+    /// Asks for the key next, for the process, and returns the answer.
     fn ask(
         &mut self,
         index: u64,
@@ -208,7 +208,7 @@ impl Scene {
         self.group.get(index, proc, target, key, mode)
     }
 
-    /// What happens next, and its answer.
+    /// Performs the next event, and returns its answer.
     fn step(&mut self, event: &Event) -> Result<Reply, Refusal>
         ensures { IsAnswered result → HappensOnce self.old (event_of event.now) (replied result) self.new }
     {
@@ -218,7 +218,7 @@ impl Scene {
         answer
     }
 
-    /// Each frame is delivered that never was.
+    /// Delivers each frame that was never delivered.
     fn flow(&mut self, alloc: Global) -> Result<Vec<u8>, AllocError>
         ensures { IfOk result (λ text. Flows self.old text.items self.new) }
     {
@@ -233,7 +233,7 @@ impl Scene {
         flow_line(Vec::new(alloc), done)
     }
 
-    /// The frame of that number is delivered.
+    /// Delivers the frame of that number.
     fn deliver(&mut self, frame: u64) -> Result<(), AllocError>
         ensures { OnOk result ((reply : ModelReply) × HappensOnce self.old (ModelEvent.deliver frame) reply self.new) }
     {
@@ -244,7 +244,7 @@ impl Scene {
         Ok(())
     }
 
-    /// The node of that index, if the group has one.
+    /// Returns the node of that index, if the group has one.
     fn node(&self, index: u64) -> Option<&Server>
         ensures { option_map (λ n. n.now) result ≡ server_at self.now index }
     {
@@ -254,7 +254,7 @@ impl Scene {
         }
     }
 
-    /// The members of the set, as the node knows them.
+    /// Returns the line with the members of the set, as the node knows them.
     fn members(
         &self,
         alloc: Global,
@@ -273,7 +273,7 @@ impl Scene {
         }
     }
 
-    /// The dump of what the node tells others.
+    /// Returns the dump of the node's knowledge for others.
     fn dump(&self, alloc: Global, room: Vec<u8>, node: u64) -> Result<Vec<u8>, AllocError>
         ensures { IfOk result (λ text. text.items ≡ dump_at (server_at self.now node)) }
     {

@@ -1,4 +1,4 @@
-//! What does the lines of a script, from the names of the nodes on; and whole scripts.
+//! The execution of a script's lines, from the names of the nodes on; and of whole scripts.
 ghost use Rattle.std.specs.Prelude.{◌≡◌, ◌≢◌, ◌≤◌, ◌+◌, ◌⊎◌, ℕ, false, List, Ok, Err, IfOk, IfErr, IfSome, IsSome, OnOk, OnErr};
 ghost use Rattle.std.specs.Option.{option_map};
 ghost use Rattle.pmg_store.specs.declared.failure.Failure.TheVariants as failures;
@@ -30,7 +30,7 @@ use std::collections::VecDeque;
 use std::io::{BufRead, Write};
 use std::marker::Model;
 
-/// What does the lines of a script: a group of nodes, once they are named.
+/// The stage on which a script's lines are carried out: a group of nodes, once they are named.
 #[derive(Drop)]
 pub struct Stage {
     alloc: Global,
@@ -48,14 +48,14 @@ impl Model for Stage {
     ghost view = { λ a. a.phase };
 }
 
-/// The line of what was done.
+/// Writes the line of a done request.
 fn ok_line(room: Vec<u8>) -> Result<Vec<u8>, AllocError>
     ensures { IfOk result (λ line. line.items ≡ ok_line) }
 {
     reply_line(room, false, &Ok(Reply::Done))
 }
 
-/// The line of a refusal; where an allocation failed there is none.
+/// Writes the line of a refusal. A failed allocation has no line.
 fn line_of_refusal(room: Vec<u8>, refusal: Refusal) -> Result<Vec<u8>, LineFault>
     ensures line { IfOk result (λ line. line.items ≡ refused_line refusal) }
     ensures memory { IfOk result (λ _. refusal ≢ refusals.NoMemory) }
@@ -67,7 +67,7 @@ fn line_of_refusal(room: Vec<u8>, refusal: Refusal) -> Result<Vec<u8>, LineFault
     }
 }
 
-/// Registers the namespace, and answers with the line of that.
+/// Registers the namespace, and returns the line of the reply.
 fn space_line(
     alloc: Global,
     room: Vec<u8>,
@@ -85,8 +85,8 @@ fn space_line(
     Ok(ok_line(room)?)
 }
 
-/// The world answers `get NS RANK wait` or `now`, then `NS RANK KEY`. Most lines of a script are such, so what one asks is made in its
-/// parts alone, in a call of its own.
+/// Answers `get NS RANK wait` or `now`, followed by `NS RANK KEY`. Most lines of a script are gets. Therefore the parts of a get have a
+/// call of their own, which builds no whole request.
 #[inline(never)]
 fn run_get(
     alloc: Global,
@@ -109,7 +109,7 @@ fn run_get(
     scene.get(room, home, &proc, &target, &key, mode)
 }
 
-/// The world answers what the line, which asks for no key, asks of it.
+/// Answers the request of the line, which is not a get, to the world.
 fn run_other(
     alloc: Global,
     room: Vec<u8>,
@@ -125,7 +125,7 @@ fn run_other(
     Ok(text)
 }
 
-/// The world answers what the line asks of it.
+/// Answers the request of the line to the world.
 fn run_line(
     alloc: Global,
     room: Vec<u8>,
@@ -144,7 +144,7 @@ fn run_line(
 }
 
 impl Stage {
-    /// No line was done.
+    /// Makes a stage on which no line was carried out.
     pub fn new(alloc: Global) -> Stage
         ensures { result ≡ phases.Fresh }
     {
@@ -165,7 +165,7 @@ impl Stage {
         }
     }
 
-    /// Returns all frames ever sent, each with the node that it was sent to, in their order, once the world runs.
+    /// Returns all frames ever sent, each with its receiver, in their order, once the world runs.
     pub fn sent(&self) -> Option<&VecDeque<Sent>>
         ensures { option_map (λ frames. frames.now.items) result ≡ sent_at self.now }
     {
@@ -212,7 +212,7 @@ impl Stage {
         }
     }
 
-    /// Starts the world, and does the first line that asks something of it. A call of its own, since a world that is made takes room.
+    /// Starts the world, and carries out the first line with a request to it. It is a call of its own, since making a world takes room.
     #[inline(never)]
     fn start(&mut self, line: &Line<'_>, room: Vec<u8>) -> Result<Vec<u8>, LineFault>
         requires { (w : GroupState) → self.old ≡ phases.Running w → ⊥ }
@@ -228,7 +228,7 @@ impl Stage {
         Ok(text)
     }
 
-    /// Does a line that asks something of the world, and starts it where it does not run.
+    /// Carries out a line with a request to the world, and starts the world if it does not run.
     fn run(&mut self, line: &Line<'_>, room: Vec<u8>) -> Result<Vec<u8>, LineFault>
         ensures ok { IfOk result (λ text. RunsAt self.old (line_of line.now) text.items self.new) }
         ensures malformed { result ≡ Err faults.Malformed → (text : List ℕ) (v : AnyPhase) → RunsAt self.old (line_of line.now) text v → ⊥ }
@@ -264,11 +264,12 @@ impl Player for Stage {
     }
 }
 
-/// Does the lines of a script on a new stage, and writes their replies, each before the next line is read. It says how the script ended.
+/// Carries out the lines of a script on a new stage, and writes their replies, each before the next line is read. It returns how the
+/// script ended.
 ///
-/// The first line that says something names the nodes; where they are refused, the script is over. Namespaces come next, and then
-/// what happens. Errors: `BadFrame` with cause Script for a line of no form or out of its order, and with cause Input past `INPUT_LIMIT`
-/// bytes, as `play_script` has them; `NoMemory`; a read or write fault.
+/// The first line with content names the nodes; if they are refused, the script is over. Namespaces come next, and then the events.
+/// Errors: `BadFrame` with cause Script for a line of no known form or out of its order, and with cause Input past `INPUT_LIMIT` bytes, as
+/// in `play_script`; `NoMemory`; a read or write fault.
 pub fn replay<R: BufRead, W: Write>(
     alloc: Global,
     stage: &mut Stage,

@@ -14,9 +14,9 @@ use std::alloc::AllocError;
 use std::collections::VecDeque;
 use std::marker::Model;
 
-/// A group of nodes with their clients, and all that happened: each event with its answer, and each frame ever sent. Frames arrive
-/// only when they are delivered; they may be delivered in any order, more than once, or never. Whatever happens, what is told is a
-/// run of the model, and the laws of every run hold of it.
+/// A group of nodes with their clients, and all events: each event with its answer, and each frame ever sent. Frames arrive only when they
+/// are delivered; they may be delivered in any order, more than once, or never. The events are always a run of the model, and the laws of
+/// every run hold for it.
 pub struct World {
     group: Group,
     told: Vec<LoggedEvent>,
@@ -42,15 +42,15 @@ impl Model for World {
     ghost invariant = { λ a. IsLed a.group a.told.items };
 }
 
-/// An allocation failed before all events had happened.
+/// A failed allocation before all events had happened.
 #[derive(Clone, Copy, PartialEq, Eq)]
 pub struct RunFailed {
-    /// How many of them happened.
+    /// The number of performed events.
     pub done: usize,
 }
 
 impl World {
-    /// The group at its start: nobody has called, and nothing was sent.
+    /// Makes the group at its start, without calls and without sent frames.
     pub fn new(registry: &Registry) -> Result<World, AllocError>
         ensures jobs { IfOk result (λ w. w.jobs ≡ registry.now) }
         ensures told { IfOk result (λ w. w.told ≡ []) }
@@ -66,35 +66,35 @@ impl World {
         })
     }
 
-    /// The registry of the group.
+    /// Returns the registry of the group.
     pub fn registry(&self) -> &Registry
         ensures { result.now ≡ self.now.jobs }
     {
         &self.group.registry
     }
 
-    /// All that happened, each event with its answer, in their order.
+    /// Returns all events, each with its answer, in their order.
     pub fn events(&self) -> &[LoggedEvent]
         ensures { result.now ≡ self.now.told }
     {
         &self.told
     }
 
-    /// All frames ever sent, each with the node that it was sent to, in their order.
+    /// Returns all frames ever sent, each with its receiver, in their order.
     pub fn sent(&self) -> &VecDeque<Sent>
         ensures { result.now.items ≡ self.now.sent }
     {
         &self.group.sent
     }
 
-    /// The node of that index, if the group has one.
+    /// Returns the node of that index, if the group has one.
     pub fn node(&self, node: NodeId) -> Option<&Server>
         ensures { option_map (λ n. n.now) result ≡ slice_get self.now.nodes node }
     {
         self.group.node(node)
     }
 
-    /// What happens next; its answer is the last of `events`. Where an allocation fails, nothing happened.
+    /// Performs the next event; its answer is the last of `events`. If an allocation fails, nothing happened.
     pub fn step(&mut self, event: Event) -> Result<(), AllocError>
         ensures jobs { self.new.jobs ≡ self.old.jobs }
         ensures told { OnOk result (Adds self.old.told (event ∷ []) self.new.told) }
@@ -113,7 +113,7 @@ impl World {
         Ok(())
     }
 
-    /// These events happen, one after another. Where an allocation fails, it is told how many of them happened.
+    /// Performs these events, one after another. If an allocation fails, it returns the number of performed events.
     pub fn run(&mut self, events: &[Event]) -> Result<(), RunFailed>
         ensures jobs { self.new.jobs ≡ self.old.jobs }
         ensures told { OnOk result (Adds self.old.told events.now self.new.told) }

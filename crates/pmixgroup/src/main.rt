@@ -1,4 +1,4 @@
-//! `pmixgroup`: the servers of a PMIx group, as text: what their frames tell, and what they do as a script or a job says.
+//! `pmixgroup`: the servers of a PMIx group, as text: the content of their frames, and their actions in a script or a job.
 #![tactic(auto)]
 
 use pmg_app::run;

@@ -18,7 +18,7 @@ ghost use Rattle.pmixgroup_c.specs.Nodes.{OnNode};
 use pmg_daemon::WRONG_HANDLE;
 use pmg_handle::Handle;
 
-/// Names a process for the next fence that is entered or set that is defined (`Daemon::name`).
+/// Names a process for the next entry of a fence or the next definition of a set (`Daemon::name`).
 #[unsafe(no_mangle)]
 pub extern "C" fn pmixgroup_name(node: &mut Handle, nspace: &[u8], rank: u32) -> u32
     ensures { OnNode node.old.place.value node.new.place.value result (Unit {0})
@@ -27,7 +27,7 @@ pub extern "C" fn pmixgroup_name(node: &mut Handle, nspace: &[u8], rank: u32) ->
     on_node!(node, daemon, daemon.name(nspace, rank))
 }
 
-/// A process puts a value (`Daemon::put`).
+/// Puts a value for a process (`Daemon::put`).
 #[unsafe(no_mangle)]
 pub extern "C" fn pmixgroup_put(
     node: &mut Handle,
@@ -43,7 +43,7 @@ pub extern "C" fn pmixgroup_put(
     on_node!(node, daemon, daemon.put(nspace, rank, scope, key, value))
 }
 
-/// A process commits what it put (`Daemon::commit`).
+/// Commits the puts of a process (`Daemon::commit`).
 #[unsafe(no_mangle)]
 pub extern "C" fn pmixgroup_commit(
     node: &mut Handle,
@@ -57,7 +57,7 @@ pub extern "C" fn pmixgroup_commit(
     on_node!(node, daemon, daemon.commit(nspace, rank, number))
 }
 
-/// A process enters a fence (`Daemon::enter`).
+/// Enters a process into a fence (`Daemon::enter`).
 #[unsafe(no_mangle)]
 pub extern "C" fn pmixgroup_enter(
     node: &mut Handle,
@@ -72,7 +72,7 @@ pub extern "C" fn pmixgroup_enter(
     on_node!(node, daemon, daemon.enter(nspace, rank, collect, number))
 }
 
-/// A process leaves a fence (`Daemon::leave`).
+/// Takes a process out of a fence (`Daemon::leave`).
 #[unsafe(no_mangle)]
 pub extern "C" fn pmixgroup_leave(
     node: &mut Handle,
@@ -86,7 +86,7 @@ pub extern "C" fn pmixgroup_leave(
     on_node!(node, daemon, daemon.leave(nspace, rank, number))
 }
 
-/// A process gets a key (`Daemon::get`).
+/// Gets a key for a process (`Daemon::get`).
 #[unsafe(no_mangle)]
 pub extern "C" fn pmixgroup_get(
     node: &mut Handle,
@@ -107,7 +107,7 @@ pub extern "C" fn pmixgroup_get(
     )
 }
 
-/// A process takes the answer of its get (`Daemon::take`).
+/// Takes the answer of a process's get (`Daemon::take`).
 #[unsafe(no_mangle)]
 pub extern "C" fn pmixgroup_take(node: &mut Handle, nspace: &[u8], rank: u32) -> u32
     ensures { OnNode node.old.place.value node.new.place.value result (Unit {0})
@@ -116,7 +116,7 @@ pub extern "C" fn pmixgroup_take(node: &mut Handle, nspace: &[u8], rank: u32) ->
     on_node!(node, daemon, daemon.take(nspace, rank))
 }
 
-/// A process ends (`Daemon::end`).
+/// Ends a process (`Daemon::end`).
 #[unsafe(no_mangle)]
 pub extern "C" fn pmixgroup_end(
     node: &mut Handle,
@@ -130,7 +130,7 @@ pub extern "C" fn pmixgroup_end(
     on_node!(node, daemon, daemon.end(nspace, rank, number))
 }
 
-/// A process set is defined (`Daemon::define`).
+/// Defines a process set (`Daemon::define`).
 #[unsafe(no_mangle)]
 pub extern "C" fn pmixgroup_define(node: &mut Handle, name: &[u8], number: &mut u64) -> u32
     ensures { OnNode node.old.place.value node.new.place.value result (number.new ≡ number.old)
@@ -139,7 +139,7 @@ pub extern "C" fn pmixgroup_define(node: &mut Handle, name: &[u8], number: &mut 
     on_node!(node, daemon, daemon.define(name, number))
 }
 
-/// A process set is deleted (`Daemon::delete`).
+/// Deletes a process set (`Daemon::delete`).
 #[unsafe(no_mangle)]
 pub extern "C" fn pmixgroup_delete(node: &mut Handle, name: &[u8], number: &mut u64) -> u32
     ensures { OnNode node.old.place.value node.new.place.value result (number.new ≡ number.old)
@@ -148,7 +148,7 @@ pub extern "C" fn pmixgroup_delete(node: &mut Handle, name: &[u8], number: &mut 
     on_node!(node, daemon, daemon.delete(name, number))
 }
 
-/// Other nodes are asked again for what is missing (`Daemon::nudge`).
+/// Asks other nodes again for missing data (`Daemon::nudge`).
 #[unsafe(no_mangle)]
 pub extern "C" fn pmixgroup_nudge(node: &mut Handle) -> u32
     ensures { OnNode node.old.place.value node.new.place.value result (Unit {0})

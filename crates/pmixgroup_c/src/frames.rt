@@ -38,7 +38,7 @@ pub extern "C" fn pmixgroup_next(
     on_node!(node, daemon, daemon.next(to, buffer, len))
 }
 
-/// Tells the fault in the bytes of another node (`Daemon::fault`).
+/// Returns the fault in the bytes of another node (`Daemon::fault`).
 #[unsafe(no_mangle)]
 pub extern "C" fn pmixgroup_fault(
     node: &mut Handle,

@@ -1,8 +1,8 @@
-//! `libpmixgroup`: one node of a group for a daemon written in C. `include/pmixgroup.h` says what C owes.
+//! `libpmixgroup`: one node of a group for a daemon written in C. `include/pmixgroup.h` states the duties of C.
 #![tactic(auto)]
 
-/// What the call answers that is made on the node of the handle, which holds the node again then; and of a handle that holds none, that it
-/// is wrong.
+/// Makes the call on the node of the handle, puts the node back, and returns the answer. For an empty handle it returns that the handle is
+/// wrong.
 macro_rules! on_node {
     ($handle:expr, $daemon:ident, $call:expr) => {{
         let Some(mut $daemon) = $handle.take() else {

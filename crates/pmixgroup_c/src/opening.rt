@@ -1,4 +1,4 @@
-//! Nodes are opened and closed.
+//! The opening and the closing of nodes.
 ghost use Rattle.std.specs.Prelude.{◌≡◌, ◌≢◌, IsNone, IsSome, IfSome, is_some, if◌then◌else◌};
 ghost use Rattle.pmg_daemon.specs.Codes.{refusal_named};
 ghost use Rattle.pmg_daemon.specs.Daemons.{FillsIfTold};
@@ -9,7 +9,7 @@ use pmg_daemon::{DONE, Daemon, NO_MEMORY, WRONG_HANDLE, refusal_code, refusal_te
 use pmg_handle::Handle;
 use std::alloc::Global;
 
-/// Opens a node in a handle that holds none: that of the index, in the group that a text describes (`Daemon::open`).
+/// Opens a node in an empty handle: the node of the index, in the group that a text describes (`Daemon::open`).
 #[unsafe(no_mangle)]
 pub extern "C" fn pmixgroup_open(node: &mut Handle, alloc: Global, id: u32, group: &[u8]) -> u32
     ensures opened { result ≡ DONE → IfSome node.new.place.value (λ d. OpensNode id group.now d) }
@@ -44,7 +44,7 @@ pub extern "C" fn pmixgroup_close(node: &mut Handle) -> u32
     node.close()
 }
 
-/// The name of the refusal of that code goes into the buffer (`refusal_text`). Idle where the code is none of a refusal's.
+/// Writes the name of the refusal of that code into the buffer (`refusal_text`). Idle if the code belongs to no refusal.
 #[unsafe(no_mangle)]
 pub extern "C" fn pmixgroup_refusal(code: u32, buffer: &mut [u8], len: &mut usize) -> u32
     ensures { FillsIfTold (refusal_named code) buffer.old len.old result buffer.new len.new }

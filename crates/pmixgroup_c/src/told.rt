@@ -1,4 +1,4 @@
-//! What the daemon is told beside codes and numbers.
+//! The results for the daemon beside codes and numbers.
 ghost use Rattle.std.specs.Prelude.{◌≡◌};
 ghost use Rattle.pmg_node.specs.Acting.{reply_as};
 ghost use Rattle.pmg_daemon.specs.Daemons.{FillsIfTold, TellsMembers, TellsProc, TellsStatus, gone_at, members_said, status_said, value_told};
@@ -7,7 +7,7 @@ ghost use Rattle.pmixgroup_c.specs.Nodes.{OnNode};
 use pmg_daemon::WRONG_HANDLE;
 use pmg_handle::Handle;
 
-/// Tells the value of the last reply (`Daemon::value`).
+/// Returns the value of the last reply (`Daemon::value`).
 #[unsafe(no_mangle)]
 pub extern "C" fn pmixgroup_value(node: &mut Handle, buffer: &mut [u8], len: &mut usize) -> u32
     ensures { OnNode node.old.place.value node.new.place.value result ((buffer.new ≡ buffer.old) × (len.new ≡ len.old))
@@ -16,7 +16,7 @@ pub extern "C" fn pmixgroup_value(node: &mut Handle, buffer: &mut [u8], len: &mu
     on_node!(node, daemon, daemon.value(buffer, len))
 }
 
-/// Tells who was gone from the fence of the last reply (`Daemon::gone`).
+/// Returns a participant that was gone from the fence of the last reply (`Daemon::gone`).
 #[unsafe(no_mangle)]
 pub extern "C" fn pmixgroup_gone(
     node: &mut Handle,
@@ -31,7 +31,7 @@ pub extern "C" fn pmixgroup_gone(
     on_node!(node, daemon, daemon.gone(index, buffer, len, rank))
 }
 
-/// Tells the members of a process set (`Daemon::members`).
+/// Returns the members of a process set (`Daemon::members`).
 #[unsafe(no_mangle)]
 pub extern "C" fn pmixgroup_members(
     node: &mut Handle,
@@ -45,7 +45,7 @@ pub extern "C" fn pmixgroup_members(
     on_node!(node, daemon, daemon.members(name, buffer, len))
 }
 
-/// Tells how a process stands (`Daemon::status`).
+/// Returns the status of a process (`Daemon::status`).
 #[unsafe(no_mangle)]
 pub extern "C" fn pmixgroup_status(
     node: &mut Handle,

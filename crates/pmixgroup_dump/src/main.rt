@@ -1,4 +1,4 @@
-//! `pmixgroup dump` and `pmixgroup merge` alone: they need stores and streams, and nothing of nodes, groups and threads.
+//! Only `pmixgroup dump` and `pmixgroup merge`: they need stores and streams, and no nodes, groups and threads.
 #![tactic(auto)]
 
 use pmg_commands::{
@@ -19,8 +19,8 @@ fn main(rt: HostRuntime) -> ExitCode {
     ExitCode::from(status)
 }
 
-/// Carries out what the command line asks for, from standard input to standard output. Why one of them failed is told on
-/// standard error.
+/// Carries out the request of the command line, from standard input to standard output. It reports on standard error why one of them
+/// failed.
 fn run(rt: &(impl Env + Input + Print + Eprint + AllocGlobal)) -> io::Result<u8> {
     let chosen = read_command_line(rt)?;
     let mut reader = WatchedReader::new(BufReader::new(rt.alloc(), rt.reader())?);
@@ -30,7 +30,7 @@ fn run(rt: &(impl Env + Input + Print + Eprint + AllocGlobal)) -> io::Result<u8>
     Ok(status)
 }
 
-/// Carries out what was chosen, and answers the status.
+/// Carries out the chosen command, and returns the status.
 fn carry_out<T: Eprint + AllocGlobal, R: Read, W: Write>(
     rt: &T,
     chosen: Chosen,
