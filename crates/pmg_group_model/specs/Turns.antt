@@ -56,8 +56,8 @@ ArePast scripts h p =
 abbrev pub IsInTurn : Scripts → Proc → Type 0
 IsInTurn scripts p = (g : Signature) (k : ℕ) → 0 < k → k < enters (scripts p) g → IsOver scripts (fence_of g k)
 
--- The invariant of every step. Nodes and frames name only fences that some process entered. Each fence of a signature that a process entered is over, except possibly the last one. The last one may be open while the process waits in it, or after the process has
--- ended.
+-- The invariant of every step. Nodes and frames name only fences that some process entered. Each fence of a signature that a process
+-- entered is over, except possibly the last one. The last one may be open while the process waits in it, or after the process has ended.
 pub record Turned (jobs : Jobs) (w : World) : Type 0 where
   pub named : (node : ℕ) → AreNamed w.scripts (w.nodes node)
   pub past : (p : Proc) → ArePast w.scripts (w.nodes (home_of jobs p)) p
