@@ -51,7 +51,7 @@ no_fences = record { series = finite.empty; ends = finite.empty }
 abbrev pub fence_of : Signature → ℕ → FenceName
 fence_of g k = record { signature = g; instance = k }
 
--- the series of the signature, an empty one where it has none
+-- the series of the signature, empty without one
 unfoldable pub series_at : Fences → Signature → Series
 series_at t g = unwrap_or (finite.get t.series g) no_series
 

@@ -68,7 +68,7 @@ not_there = Doing.by_cache (Err refusals.BadParam) None
 abbrev pub if_node : Jobs → ℕ → Doing → Doing
 if_node jobs node doing = if is_node jobs node then doing else not_there
 
--- the process is not a single process, but a whole namespace
+-- the process has no particular rank
 abbrev pub rank_cause : Proc → Refusal → Bool
 rank_cause p refusals.BadParam = is_general p
 rank_cause p _ = false

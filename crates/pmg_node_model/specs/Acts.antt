@@ -128,8 +128,8 @@ signature_cause h g p refusals.NotAParticipant = not (set.contains g.participant
 signature_cause h g p refusals.TooMany = nat_lt MAX_PARTICIPANTS (set.len g.participants) || nat_le MAX_INSTANCE (count_of h.table g p)
 signature_cause h g p _ = false
 
--- The target of a get must be a process of the group, other than the caller. For a reserved key the target may also be the caller, or a
--- whole namespace.
+-- The target of a get must be a process of the group, other than the caller. For a reserved key the target may also be the caller, or have
+-- no particular rank.
 abbrev pub target_cause : Jobs → Proc → Get → Refusal → Bool
 target_cause jobs p get refusals.BadParam =
     is_reserved get.target.nspace

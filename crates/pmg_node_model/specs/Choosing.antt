@@ -99,7 +99,7 @@ asking_again jobs id h q = flat_map (λ e. if is_parked_on q e.1 then asking_hom
 abbrev pub asking_risen : Jobs → ℕ → NodeState → NodeState → Proc → List ToSend
 asking_risen jobs id old new q = if nat_lt (level_at old.far q) (level_at new.far q) then asking_again jobs id new q else []
 
--- ---- what is sent at a nudge
+-- ---- the frames of a nudge
 
 -- the fence that the call is in, unless the fence released it
 abbrev pub waited : CallState → List FenceName

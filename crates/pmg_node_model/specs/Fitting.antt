@@ -56,7 +56,7 @@ last_signature (Call.terminate ∷ cs) = None
 abbrev pub last_fence : Script → Option FenceName
 last_fence s = option_map (λ g. fence_of g (enters s g)) (last_signature s)
 
--- ---- what fits
+-- ---- refinement
 
 -- The state of an own process refines its script. The sealer agrees with the script, and the node knows all its commits, for reads from the
 -- process's own node and from other nodes.

@@ -114,8 +114,8 @@ is_quiet (Reply.refused e) = true
 is_quiet Reply.ignored = true
 is_quiet _ = false
 
--- One step of a node. The act determines its reply and its new state. Each sent frame goes to another node of the group and is allowed, and
--- all owed frames are sent.
+-- One step of a node. The act determines its reply and its new state. A refused act or an ignored frame sends nothing. Each sent frame goes
+-- to another node of the group and is allowed, and all owed frames are sent.
 pub record NodeStep (jobs : Jobs) (id : ℕ) (old : NodeState) (a : Act) (r : Reply) (new : NodeState) (out : List Sent) : Type 0 where
   pub replied : r ≡ (acts jobs id old a).reply
   pub left : new ≡ (acts jobs id old a).left

@@ -17,7 +17,7 @@ abbrev pub onto : ℕ → List (List ℕ) → List (List ℕ)
 onto byte [] = (byte ∷ []) ∷ []
 onto byte (line ∷ others) = (byte ∷ line) ∷ others
 
--- the lines of a text, each with the LF that ends it; the last one may have none
+-- the lines of a text, each with the LF that ends it; the last one may lack the LF
 unfoldable pub lines : List ℕ → List (List ℕ)
 lines [] = []
 lines (byte ∷ bytes) = if is_end byte then (byte ∷ []) ∷ lines bytes else onto byte (lines bytes)

@@ -1,5 +1,4 @@
--- Two servers that have taken the same pieces, in any order, in any grouping and with any repeats, hold the
--- same data.
+-- Two servers that have taken equal sets of pieces, in any order, in any grouping and with any repeats, hold equal data.
 use Rattle.std.specs.Prelude.{ℕ, ◌≡◌, ◌≤◌, List, [], ◌∷◌, ◌++◌, length, Ok}
 use Rattle.std.specs.FinMap as finite
 use Rattle.pmg_value.specs.declared.process.Proc.{Proc}

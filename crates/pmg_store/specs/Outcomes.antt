@@ -14,7 +14,7 @@ abbrev pub or_failure : {Y : Type 0} → Result Y Fault → Result Y Failure
 or_failure (Ok y) = Ok y
 or_failure (Err fault) = Err (Refused (BadFrame fault))
 
--- An allocation may always fail, and so may a reader. A separate clause at each call states that it failed.
+-- Any allocation may fail, and any reader may fail. A separate clause at each call states that it failed.
 abbrev pub CanAlwaysCome : Failure → Type 0
 CanAlwaysCome failure = (failure ≡ Refused NoMemory) ⊎ (failure ≡ Read)
 
