@@ -195,8 +195,8 @@ impl Server {
         Ok(Delivery::Taken)
     }
 
-    /// Takes the reply of a process's home with the commits after the known ones. The get that asked for it is answered, and so are other
-    /// waiting gets of its keys and fences that waited for it. If gets of its keys still wait, the node asks for more.
+    /// Takes the reply of a process's home with the commits after the known ones. It answers the get that asked for it, other waiting gets
+    /// of the process's keys, and fences that waited for it. If gets of its keys still wait, the node asks for more.
     pub(crate) fn deliver_refresh_reply(
         &mut self,
         reply: &RefreshReply,

@@ -256,7 +256,7 @@ takes h p (Some (CallState.refreshing get number)) = done_as Reply.waiting h
 takes h p (Some (CallState.refreshed get outcome)) = done_as (reply_of outcome) (uncalled h p)
 takes h p None = done_as Reply.idle h
 
--- how a get waits, after n requests: a get that asks anew waits for the reply to request n + 1
+-- the waiting call of a get, after n requests: a get that asks anew waits for the reply to request n + 1
 abbrev pub waits_as : ℕ → Get → Mode → CallState
 waits_as n get modes.Wait = CallState.parked get
 waits_as n get modes.Now = CallState.parked get

@@ -1,4 +1,4 @@
--- Which frames a node may send, and which it owes.
+-- The frames that a node may send, and the frames that it owes.
 use Rattle.std.specs.Prelude.{◌≡◌, ℕ, ◌<◌, ◌≤◌, Bool, true, false, List, [], Option, Some, None}
 use Rattle.pmg_value.specs.Lists.{In, Each}
 use Rattle.pmg_value.specs.Signatures.{FenceName}
@@ -47,7 +47,8 @@ ask_anew id h q number = refresh_ask number (commit_ask id q (level_at h.far q))
 
 -- The frames that a node may send after an act. A piece of an own process's commits for other nodes, up to its level. Its own header of a
 -- fence in its table. A request for a header of a fence in which an own process waits. A request for commits. A request anew, under a
--- number that was given, up to the known level. A reply to a request anew that the act delivered.
+-- number that was given, up to the known level. A reply to a request anew that the act delivered, unless it names a commit that was not
+-- made.
 unfoldable pub Allowed : Jobs → ℕ → Act → NodeState → Frame → Type 0
 Allowed jobs id act h (frames.Piece c) =
     (home_of jobs c.proc ≡ id) × (c.from < (sealer_of h c.proc).level) × (c ≡ piece_at (sealer_of h c.proc) c.from reach.Far)

@@ -16,7 +16,7 @@ ghost use Rattle.pmg_node_model.specs.NodeLaws.{
   HeldStayOwn,
 };
 
-/// The laws of every act of a node. If the state and the act fit some scripts, the state after an act fits them with the act's calls
+/// States the laws of every act of a node. If the state and the act fit some scripts, the state after an act fits them with the act's calls
 /// appended. A get waits exactly if it has no answer. A get that asks anew waits until the reply to its request comes, or its process ends.
 /// A process in a fence is released at the act that makes the fence ready, and stays released until it leaves or ends. A fence's name
 /// enters the table only by an act that names it. The table has at most two instances of a signature: the greatest that came, and the one
