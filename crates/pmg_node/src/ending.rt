@@ -31,8 +31,8 @@ use pmg_value::{NodeId, Proc, Refusal};
 use std::alloc::AllocError;
 use std::collections::VecDeque;
 
-/// Makes the process gone from the fences that it has not entered, after the end with so many commits in the table. The own headers that
-/// begin to exist are due to other nodes. Returns the earlier state.
+/// Makes the process gone from the fences that it has not entered, after the end with so many commits in the table. Returns the earlier
+/// state, and the own headers that begin to exist, due to other nodes.
 fn end_fences(
     table: &mut Table,
     id: NodeId,

@@ -216,8 +216,8 @@ impl Server {
         registry.count_meant(list) > MAX_PARTICIPANTS
     }
 
-    /// Returns the signature that the entering process asks for, by its checked list of participants, unless there are too many. Too many
-    /// participants are an error even if an allocation fails.
+    /// Returns the signature that the entering process asks for, by its checked list of participants; `None` if there are too many
+    /// participants, even if an allocation fails.
     fn asked_signature(
         &self,
         proc: &Proc,

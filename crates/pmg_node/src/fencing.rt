@@ -31,7 +31,7 @@ pub(crate) struct FenceContext<'a> {
     pub(crate) own: &'a LocalCommits,
 }
 
-/// Makes the headers due to each other node of their fences, one after the other.
+/// Returns the headers, due to each other node of their fences, one after the other.
 pub(crate) fn announce_all(
     registry: &Registry,
     id: NodeId,
@@ -46,7 +46,7 @@ pub(crate) fn announce_all(
     Ok(dues)
 }
 
-/// Makes the header due to the node, and, if the fence collects data, the commits of each process that it lists.
+/// Sends the header to the node, and, if the fence collects data, the commits of each process that it lists.
 pub(crate) fn tell_node(
     alloc: Global,
     own: &LocalCommits,

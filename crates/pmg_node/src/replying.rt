@@ -42,7 +42,7 @@ fn reply_of(alloc: Global, own: &LocalCommits, ask: &RefreshAsk) -> Result<Refre
     Ok(RefreshReply::from_checked(node, ask.request(), proc.copy()?, level, level, entries))
 }
 
-/// Makes the reply due to the node that asks anew, unless it names a commit that was not made.
+/// Returns the reply, due to the node that asks anew, unless it names a commit that was not made.
 pub(crate) fn reply_due(
     alloc: Global,
     own: &LocalCommits,

@@ -101,7 +101,7 @@ pub fn announce(
     Ok(())
 }
 
-/// Makes all commits of the process that represents the group's host due to each other node.
+/// Returns all commits of the process that represents the group's host, due to each other node.
 pub fn spread(
     registry: &Registry,
     id: NodeId,
@@ -121,7 +121,7 @@ pub fn spread(
     Ok(dues)
 }
 
-/// Makes the process's commits above a level due to the node, if there are any.
+/// Returns the process's commits above a level, due to the node, if there are any.
 pub fn answer_commits(
     alloc: Global,
     own: &LocalCommits,
@@ -141,7 +141,7 @@ pub fn answer_commits(
     Ok(dues)
 }
 
-/// Makes the process's commits above the known level of each waiting node due to this node.
+/// Returns the process's commits for the nodes that wait for its next one, due to each node above its known level.
 pub fn tell_waiting(
     alloc: Global,
     own: &LocalCommits,
