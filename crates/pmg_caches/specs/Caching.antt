@@ -11,18 +11,18 @@ use Rattle.pmg_scope.specs.declared.scope.Scope.{Scope}
 use Rattle.pmg_node.specs.Servers.{Server}
 use Rattle.pmg_node_model.specs.Acts.{also, free_cause}
 
--- what each client put, by its process
+-- the puts of each client, by its process
 abbrev pub AllCached : Type 0
 AllCached = finite.FinMap proc_cmp Cached
 
--- its code
+-- the code of caches by process
 abbrev pub coded_all_cached : Coded AllCached
 coded_all_cached = finite.code coded_proc coded_cached
 
--- what the process's client put
+-- the puts of the process's client
 abbrev pub cached_for : AllCached → Proc → Cached
 cached_for all p = unwrap_or (finite.get all p) no_puts
 
--- where a put of a process has a cause to be refused: at the node where it calls, or in its client's cache
+-- the causes to refuse a put of a process: at the node where it calls, or in its client's cache
 abbrev pub put_cause_at : Server → Cached → Proc → Scope → List ℕ → List ℕ → Refusal → Bool
 put_cause_at s c p scope key value = also (free_cause s.jobs s.id s.holding p) (put_cause c scope key value)

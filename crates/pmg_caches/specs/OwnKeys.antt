@@ -1,4 +1,4 @@
--- Gets of one's own keys.
+-- Gets of a client's own keys.
 use Rattle.std.specs.Prelude.{ℕ, List, Option, Some, None, Result, if◌then◌else◌}
 use Rattle.std.specs.FinMap as map
 use Rattle.pmg_value.specs.CheckOrder.{first_of}
@@ -10,11 +10,11 @@ use Rattle.pmg_node_model.specs.Acts.{Request, Reply, reply_of}
 use Rattle.pmg_node.specs.Servers.{Server}
 use Rattle.pmg_group_model.specs.Worlds.{is_own, own_cause}
 
--- the process and the key, where a process asks for a key of its own that is none of the standard's
+-- the process and the key, if a process asks for a key of its own that the standard does not reserve
 abbrev pub own_key : Request → Option (Proc × List ℕ)
 own_key (Request.ask p get mode) = if is_own p get then Some (p, get.key) else None
 own_key _ = None
 
--- how a process's get of a key of its own is answered, whose client's cache is this
+-- the answer to a process's get of its own key, given its client's cache
 unfoldable pub own_answer : Server → Cached → Proc → List ℕ → Result Reply Refusal
 own_answer s c p key = first_of (own_cause s.jobs s.id s.holding p) (reply_of (found_or (map.get c.own key) Outcome.absent))

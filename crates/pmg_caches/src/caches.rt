@@ -1,4 +1,4 @@
-//! What clients put.
+//! The caches of clients.
 ghost use Rattle.std.specs.Prelude.{◌≡◌, IfOk, OnOk, OnErr};
 ghost use Rattle.std.specs.FinMap as finite;
 ghost use Rattle.std.specs.Option.{option_map};
@@ -34,7 +34,7 @@ impl Model for Caches {
 }
 
 impl Caches {
-    /// Nobody put anything. It keeps the allocator.
+    /// Makes an empty map: no client put anything. It keeps the allocator.
     pub fn new(alloc: Global) -> Caches
         ensures { result ≡ finite.empty }
     {
@@ -44,14 +44,14 @@ impl Caches {
         }
     }
 
-    /// The cache of the process's client, if that put something.
+    /// Returns the cache of the process's client, if the client put something.
     fn get(&self, proc: &Proc) -> Option<&Cache>
         ensures { option_map (λ c. c.now) result ≡ finite.get self.now proc.now }
     {
         self.rows.get(proc)
     }
 
-    /// What the process itself reads under the key.
+    /// Returns the value that the process itself reads under the key.
     pub fn own(&self, proc: &Proc, key: &Key) -> Option<&Value>
         ensures { option_map (λ v. spelling v.now) result ≡ finite.get (cached_for self.now proc.now).own key.now }
     {
@@ -61,7 +61,7 @@ impl Caches {
         }
     }
 
-    /// What no commit of the process sealed.
+    /// Returns the puts that no commit of the process sealed.
     pub fn unsealed(&self, proc: &Proc) -> Result<Batch, AllocError>
         ensures { IfOk result (λ b. b ≡ unsealed_of (cached_for self.now proc.now)) }
     {
@@ -71,7 +71,7 @@ impl Caches {
         }
     }
 
-    /// The process puts the value under the key.
+    /// Puts the value under the key, for the process.
     pub fn put(&mut self, proc: &Proc, scope: Scope, key: Key, value: Value) -> Result<(), Refusal>
         ensures answer { Gives (λ u. u) result (first_of (put_cause (cached_for self.old proc.now) scope key (spelling value)) tt) }
         ensures ok { OnOk result (self.new ≡ finite.insert self.old proc.now (with_put (cached_for self.old proc.now) scope key (spelling value))) }
@@ -86,7 +86,7 @@ impl Caches {
         Ok(())
     }
 
-    /// All that the process put is sealed by a commit.
+    /// Marks all puts of the process as sealed by a commit.
     pub fn mark_sealed(&mut self, proc: &Proc)
         ensures { self.new ≡ changed_at self.old proc.now (after_commit (cached_for self.old proc.now)) }
     {

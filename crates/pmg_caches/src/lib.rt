@@ -1,4 +1,4 @@
-//! What clients put and did not commit yet, and what they get of their own keys.
+//! The uncommitted puts of clients, and gets of a client's own keys.
 #![tactic(auto)]
 
 mod caches;

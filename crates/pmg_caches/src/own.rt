@@ -1,4 +1,4 @@
-//! What a client gets of its own keys.
+//! Gets of a client's own keys.
 ghost use Rattle.std.specs.Prelude.{◌≡◌};
 ghost use Rattle.std.specs.Option.{option_map};
 ghost use Rattle.pmg_jobinfo.specs.Reserved.{is_general};
@@ -13,21 +13,21 @@ use crate::caches::Caches;
 use pmg_node::{Reply, Request, Server};
 use pmg_value::{Key, Proc, Refusal};
 
-/// Whether no particular rank is named.
+/// Returns whether the process has no particular rank.
 fn is_general(proc: &Proc) -> bool
     ensures { result ≡ is_general proc.now }
 {
     proc.rank.is_wildcard() || proc.rank.is_undef()
 }
 
-/// Whether the process asks for a key of its own that is none of the standard's.
+/// Returns whether the process asks for a key of its own that the standard does not reserve.
 pub fn is_own(proc: &Proc, target: &Proc, key: &Key) -> bool
     ensures { result ≡ is_own proc.now (get_of target.now key.now) }
 {
     proc.cmp(target).is_eq() && !key.is_reserved()
 }
 
-/// The process and the key, where a process asks for a key of its own that is none of the standard's.
+/// Returns the process and the key, if a process asks for a key of its own that the standard does not reserve.
 pub fn own_key(request: &Request) -> Option<(&Proc, &Key)>
     ensures { option_map (λ own. (own.0.now, own.1.now)) result ≡ own_key (request_of request.now) }
 {
@@ -49,7 +49,7 @@ pub fn own_key(request: &Request) -> Option<(&Proc, &Key)>
     }
 }
 
-/// A process gets a key of its own at the node.
+/// Answers a process's get of its own key at the node.
 pub fn own_get(node: &Server, caches: &Caches, proc: &Proc, key: &Key) -> Result<Reply, Refusal>
     ensures { Replies reply_as result (reply_or_refusal (own_answer node.now (cached_for caches.now proc.now) proc.now key.now)) }
 {

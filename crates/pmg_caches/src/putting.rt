@@ -1,4 +1,4 @@
-//! What a client puts at its node.
+//! Puts of a client at its node.
 ghost use Rattle.std.specs.Prelude.{◌≡◌, ◌||◌, not, OnOk, OnErr};
 ghost use Rattle.std.specs.FinMap as finite;
 ghost use Rattle.pmg_value.specs.Answers.{Gives};
@@ -15,15 +15,15 @@ use pmg_node::Server;
 use pmg_scope::{Reach, Scope, includes};
 use pmg_value::{Key, Proc, Refusal, Value};
 
-/// Whether a put of the key is refused whoever puts it.
+/// Returns whether a put of the key is refused for every process.
 pub fn is_bad_put(scope: Scope, key: &Key) -> bool
     ensures { result ≡ (not (reaches scope reach.Own) || is_reserved key.now) }
 {
     !includes(scope, Reach::Own) || key.is_reserved()
 }
 
-/// The process puts the value under the key, in its client's cache (PMIx Standard 5.0, PMIx_Put). Refused where the node refuses
-/// who calls, and as `Cache::put` is; a refused put changes nothing.
+/// Puts the value under the key, in the cache of the process's client (PMIx Standard 5.0, PMIx_Put). A refused put changes nothing. Errors:
+/// the node's refusals of the caller, and the errors of `Cache::put`.
 pub fn put_at(
     node: &Server,
     caches: &mut Caches,

@@ -1,4 +1,4 @@
--- What a table holds, as a model's value.
+-- The content of a fence table, as the value of a model.
 use Rattle.std.specs.Prelude.{ℕ, List, refl}
 use Rattle.std.specs.Coded.{Coded, code_by, coded×, coded_ℕ, coded_list}
 use Rattle.std.specs.FinMap as finite
@@ -21,7 +21,7 @@ coded_numbers = finite.code coded_proc coded_ℕ
 abbrev pub Headers : Type 0
 Headers = finite.FinMap nat_cmp (List Local)
 
--- the headers of a tree, with what each of them tells
+-- the headers of a tree, with the lines of each
 abbrev pub headers_in : List (ℕ × Header) → Headers
 headers_in rows = rows_of (λ h. h.locals) rows
 
@@ -29,7 +29,7 @@ headers_in rows = rows_of (λ h. h.locals) rows
 abbrev pub coded_headers : Coded Headers
 coded_headers = finite.code coded_ℕ (coded_list coded_local)
 
--- what is known of a fence, as a pair
+-- the knowledge of a fence, as a pair
 abbrev pub coded_fence : Coded Fence
 coded_fence = code_by (Numbers × Headers) (coded× coded_numbers coded_headers) (λ f. (f.levels, f.headers)) (λ p. record { levels = p.0; headers = p.1 }) (λ _. refl)
 
@@ -78,19 +78,19 @@ Index = finite.FinMap proc_cmp Signatures
 abbrev pub coded_index : Coded Index
 coded_index = finite.code coded_proc coded_signatures
 
--- what a node keeps of fences, as a pair
+-- the fences of a node, as a pair
 abbrev pub coded_fences : Coded Fences
 coded_fences = code_by (AllSeries × Numbers) (coded× coded_all_series coded_numbers) (λ t. (t.series, t.ends)) (λ p. record { series = p.0; ends = p.1 }) (λ _. refl)
 
--- What a table holds: the jobs of the group and its own node; the fences; and the own headers that have come to exist and were
--- not taken yet, the one that came first in front.
+-- The content of a table: the jobs of the group and the node's index; the fences; and the own headers that began to exist and were not
+-- taken yet, the oldest in front.
 pub record Known : Type 0 where
   pub jobs : Jobs
   pub node : ℕ
   pub fences : Fences
   pub waiting : List Header
 
--- what a table holds, as a tuple
+-- the content of a table, as a tuple
 abbrev pub coded_known : Coded Known
 coded_known =
     code_by (Jobs × (ℕ × (Fences × List Header))) (coded× coded_jobs (coded× coded_ℕ (coded× coded_fences (coded_list coded_header))))

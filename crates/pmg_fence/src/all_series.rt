@@ -33,7 +33,7 @@ impl Model for AllSeries {
 }
 
 impl AllSeries {
-    /// No fences. It keeps the allocator.
+    /// Makes an empty map. It keeps the allocator.
     pub fn new(alloc: Global) -> AllSeries
         ensures { result ≡ finite.empty }
     {
@@ -43,26 +43,26 @@ impl AllSeries {
         }
     }
 
-    /// The allocator that the table keeps.
+    /// Returns the allocator that the table keeps.
     pub fn allocator(&self) -> Global {
         self.alloc
     }
 
-    /// The fences of the signature.
+    /// Returns the fences of the signature.
     pub fn get(&self, signature: &Signature) -> Option<&Series>
         ensures { option_map (λ s. s.now) result ≡ finite.get self.now signature.now }
     {
         self.rows.get(signature)
     }
 
-    /// The fences, in the order of their signatures.
+    /// Returns the fences, in the order of their signatures.
     pub fn rows(&self) -> &BTreeMap<Signature, Series>
         ensures { map_of result.now.entries ≡ self.now }
     {
         &self.rows
     }
 
-    /// Keeps what becomes known of the instance of the signature, and tells what its fences were before, if it had any.
+    /// Applies the change to the instance of the signature, and returns the earlier state of the signature's fences, if it had any.
     pub fn change(
         &mut self,
         signature: &Signature,
@@ -83,7 +83,7 @@ impl AllSeries {
         Ok(None)
     }
 
-    /// Of the signature's fences forgets all but those of the greatest instance and of the one before. It takes no memory.
+    /// Forgets the signature's fences, except the greatest instance and the one before. It takes no memory.
     pub fn forget(&mut self, signature: &Signature)
         ensures { self.new ≡ changed_at self.old signature.now (series_kept (series_in self.old signature.now)) }
     {
@@ -114,7 +114,7 @@ impl AllSeries {
         }
     }
 
-    /// The same fences, with the same allocator.
+    /// Returns an equal copy, with this allocator.
     pub fn copy(&self) -> Result<AllSeries, AllocError>
         ensures { IfOk result (λ copy. copy ≡ self.now) }
     {

@@ -1,12 +1,12 @@
 use pmg_frame::Header;
 use pmg_value::Proc;
 
-/// What becomes known of a fence, beside its name.
+/// A change of a fence, beside its name.
 #[derive(Drop)]
 pub enum Change {
-    /// The name alone.
+    /// Only the name.
     Learned,
-    /// The process has entered it, after so many commits.
+    /// The entry of a process, after so many commits.
     Entered(Proc, u64),
     /// The header of a node.
     Told(Header),

@@ -6,8 +6,7 @@ use pmg_frame::{Local, State};
 use pmg_value::Proc;
 use std::alloc::AllocError;
 
-/// How a participant stands to a fence: it has entered it, or it ended before it did; and the number of its commits
-/// then.
+/// The entry of a participant in a fence: it has entered the fence, or it ended before; with the number of its commits at that time.
 #[derive(Clone, Copy, PartialEq, Eq)]
 pub struct Entry {
     pub state: State,
@@ -15,7 +14,7 @@ pub struct Entry {
 }
 
 impl Entry {
-    /// Whether it ended before it entered.
+    /// Returns whether the participant ended before it entered.
     pub(crate) fn is_gone(self) -> bool
         ensures { result ≡ is_gone self.state }
     {
@@ -25,7 +24,7 @@ impl Entry {
         }
     }
 
-    /// What a header tells of the process.
+    /// Returns the line of the process in a header.
     pub(crate) fn local(self, proc: &Proc) -> Result<Local, AllocError>
         ensures { IfOk result (λ l. l ≡ local_of proc.now self) }
     {

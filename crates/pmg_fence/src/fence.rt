@@ -12,7 +12,7 @@ use pmg_value::{Copied, Proc};
 use std::alloc::{AllocError, Global};
 use std::marker::Model;
 
-/// What is known of one fence: the levels at which own processes entered it, and the headers of other nodes.
+/// The knowledge of one fence: the levels at which own processes entered it, and the headers of other nodes.
 pub struct Fence {
     levels: Numbers,
     headers: Headers,
@@ -36,19 +36,19 @@ impl Model for Fence {
     ghost view = { λ a. record { levels = a.levels; headers = a.headers } };
 }
 
-/// What was known of a fence before a change, by which it can be taken back.
+/// The earlier knowledge of a fence, by which a change can be taken back.
 #[derive(Drop)]
 pub enum FenceUndo {
-    /// The same.
+    /// Nothing changed.
     Learned,
-    /// The level of a process that entered.
+    /// The earlier level of a process that entered.
     Entered(NumberUndo),
-    /// No header of that node, if one has come.
+    /// The node whose header was missing, if a header came.
     Told(Option<u64>),
 }
 
 impl Fence {
-    /// A fence of which the name alone is known.
+    /// Makes a fence with only a name.
     pub fn new(alloc: Global) -> Fence
         ensures { result ≡ no_fence }
     {
@@ -58,7 +58,7 @@ impl Fence {
         }
     }
 
-    /// Keeps what becomes known of the fence, and tells what there was before.
+    /// Applies the change to the fence, and returns the earlier knowledge.
     pub fn change(&mut self, change: Change) -> Result<FenceUndo, AllocError>
         ensures before { IfOk result (λ b. fence_back self.new b ≡ self.old) }
         ensures ok { OnOk result (self.new ≡ fence_changed self.old change) }
@@ -88,7 +88,7 @@ impl Fence {
         }
     }
 
-    /// How many processes entered the fence.
+    /// Returns how many processes entered the fence.
     pub fn count(&self) -> usize
         ensures value { result ≡ finite.len self.now.levels }
         ensures small { result < 2 ^ 63 }
@@ -96,21 +96,21 @@ impl Fence {
         self.levels.len()
     }
 
-    /// The level at which the process entered the fence.
+    /// Returns the level at which the process entered the fence.
     pub fn level(&self, proc: &Proc) -> Option<u64>
         ensures { result ≡ finite.get self.now.levels proc.now }
     {
         self.levels.get(proc)
     }
 
-    /// Whether the node's header is there.
+    /// Returns whether the node's header is known.
     pub fn has_header(&self, node: u32) -> bool
         ensures { result ≡ is_some (finite.get self.now.headers node) }
     {
         self.headers.contains(node)
     }
 
-    /// How the process stands to the fence, as the header of the node tells.
+    /// Returns the entry of the process in the header of the node.
     pub fn told_entry(&self, node: u32, proc: &Proc) -> Option<Entry>
         ensures { result ≡ entry_in proc.now (finite.get self.now.headers node) }
     {

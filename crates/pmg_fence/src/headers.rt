@@ -31,7 +31,7 @@ impl Model for Headers {
 }
 
 impl Headers {
-    /// No headers. It keeps the allocator.
+    /// Makes an empty map. It keeps the allocator.
     pub fn new(alloc: Global) -> Headers
         ensures { result ≡ finite.empty }
     {
@@ -41,7 +41,7 @@ impl Headers {
         }
     }
 
-    /// Keeps the header, unless there is one of its node already; and tells its node where it is kept.
+    /// Keeps the header, unless there is already one of its node; returns its node if the header is kept.
     pub fn put(&mut self, header: Header) -> Result<Option<u64>, AllocError>
         ensures before { IfOk result (λ node. headers_back self.new node ≡ self.old) }
         ensures ok { OnOk result (self.new ≡ finite.insert self.old header.node (first_locals (finite.get self.old header.node) header.locals)) }
@@ -62,7 +62,7 @@ impl Headers {
         let _ = self.rows.remove(&node);
     }
 
-    /// Takes the header of the node back that was kept, where one was. It takes no memory.
+    /// Removes the node's header again, if one was kept. It takes no memory.
     pub fn rollback(&mut self, node: Option<u64>)
         ensures { self.new ≡ headers_back self.old node }
     {
@@ -71,14 +71,14 @@ impl Headers {
         }
     }
 
-    /// Whether the node's header is there.
+    /// Returns whether the node's header is known.
     pub fn contains(&self, node: u32) -> bool
         ensures { result ≡ is_some (finite.get self.now node) }
     {
         self.rows.get(&(node as u64)).is_some()
     }
 
-    /// How the process stands to the fence, as the header of the node tells.
+    /// Returns the entry of the process in the header of the node.
     pub fn entry(&self, node: u32, proc: &Proc) -> Option<Entry>
         ensures { result ≡ entry_in proc.now (finite.get self.now node) }
     {
@@ -88,7 +88,7 @@ impl Headers {
         }
     }
 
-    /// The same headers, with the same allocator.
+    /// Returns an equal copy, with this allocator.
     pub fn copy(&self) -> Result<Headers, AllocError>
         ensures { IfOk result (λ copy. copy ≡ self.now) }
     {
@@ -99,7 +99,7 @@ impl Headers {
     }
 }
 
-/// How the process stands to the fence, as these lines of a header tell.
+/// Returns the entry of the process in these lines of a header.
 fn told_entry(locals: &[Local], proc: &Proc) -> Option<Entry>
     requires { IsTrue (is_chain is_local_rising locals.now) }
     ensures { result ≡ entry_in proc.now (Some locals.now) }

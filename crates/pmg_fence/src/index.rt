@@ -30,7 +30,7 @@ impl Model for Index {
 }
 
 impl Index {
-    /// Of no process. It keeps the allocator.
+    /// Makes an index of no process. It keeps the allocator.
     pub fn new(alloc: Global) -> Index
         ensures { result ≡ finite.empty }
     {
@@ -40,7 +40,7 @@ impl Index {
         }
     }
 
-    /// The signatures of the process.
+    /// Returns the signatures of the process.
     pub fn get(&self, proc: &Proc) -> Option<&Signatures>
         ensures { option_map (λ s. s.now) result ≡ finite.get self.now proc.now }
     {
@@ -64,7 +64,7 @@ impl Index {
         Ok(())
     }
 
-    /// Lists the signature for each of the processes. Where an allocation fails, it may be listed for some of them.
+    /// Lists the signature for each of the processes. If an allocation fails, it may be listed for some of them.
     pub fn put_all(&mut self, procs: &[Proc], signature: &Signature) -> Result<(), AllocError>
         ensures ok { OnOk result (ListsEach self.new signature.now procs.now) }
         ensures more { ListsMore self.old self.new }

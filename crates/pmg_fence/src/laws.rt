@@ -20,14 +20,14 @@ ghost use Rattle.pmg_fence.specs.Rules.{
   EndKeeps,
 };
 
-/// The rules of entries and headers as scripts grow: each is final.
+/// States the laws of entries and headers as scripts grow: each is final.
 pub fn entry_rules()
     ensures entry_stays { EntryStays }
     ensures header_stays { HeaderStays }
 {}
 
-/// The rules of a table that fits the scripts: of a fence that is not old its headers are those that the scripts tell; once a
-/// fence is ready, each participant has entered or is gone, and the gone are those that ended before they entered.
+/// States the laws of a table that fits the scripts. The headers of a fence that is not old are the scripts' headers. Each participant of a
+/// ready fence has entered or is gone, and the gone participants are those that ended before they entered.
 pub fn table_rules()
     ensures own_header_is_true { OwnHeaderIsTrue }
     ensures headers_are_true { HeadersAreTrue }
@@ -36,8 +36,8 @@ pub fn table_rules()
     ensures gone_are_true { GoneAreTrue }
 {}
 
-/// The rules of a table that fits the scripts as it goes on: a new one fits scripts without calls; it fits them with the call
-/// added that a process made, and as they are where a name is learned, or a header that is the scripts'.
+/// States the steps of a table that fits the scripts. A new table fits scripts without calls. After a call of a process, the table fits the
+/// scripts with this call. After a name is learned, or a header arrives that agrees with the scripts, it still fits them.
 pub fn call_rules()
     ensures new_fits { NewFits }
     ensures put_fits { PutFits }
@@ -49,8 +49,8 @@ pub fn call_rules()
     ensures header_fits { HeaderFits }
 {}
 
-/// The rules of headers that are there: each stays as it is while its fence is not old, whatever is learned and told, and whatever
-/// own processes do.
+/// States the laws of known headers: each stays unchanged while its fence is not old, for any learned names, any arriving headers and any
+/// calls of own processes.
 pub fn header_rules()
     ensures learn_keeps { LearnKeeps }
     ensures header_keeps { HeaderKeeps }

@@ -1,4 +1,4 @@
-//! Fences of a node: who entered, what other nodes told, and when a fence is ready.
+//! The fences of a node: the entries of its processes, the headers of other nodes, and the condition under which a fence is ready.
 #![tactic(auto)]
 
 mod all_series;

@@ -7,7 +7,7 @@ use std::alloc::{AllocError, Global};
 use std::collections::BTreeMap;
 use std::marker::Model;
 
-/// What a process's number was before it was given one, by which that can be taken back.
+/// The earlier number of a process, by which a change can be taken back.
 #[derive(Drop)]
 pub struct NumberUndo {
     proc: Proc,
@@ -34,7 +34,7 @@ impl Model for Numbers {
 }
 
 impl Numbers {
-    /// No numbers. It keeps the allocator.
+    /// Makes an empty map. It keeps the allocator.
     pub fn new(alloc: Global) -> Numbers
         ensures { result ≡ finite.empty }
     {
@@ -44,7 +44,7 @@ impl Numbers {
         }
     }
 
-    /// How many processes have a number.
+    /// Returns how many processes have a number.
     pub fn len(&self) -> usize
         ensures value { result ≡ finite.len self.now }
         ensures small { result < 2 ^ 63 }
@@ -52,14 +52,14 @@ impl Numbers {
         self.rows.len()
     }
 
-    /// The process's number.
+    /// Returns the process's number.
     pub fn get(&self, proc: &Proc) -> Option<u64>
         ensures { result ≡ finite.get self.now proc.now }
     {
         self.rows.get(proc).copied()
     }
 
-    /// Gives the process a number, and tells the one that it had.
+    /// Gives the process a number, and returns its earlier one.
     fn insert(&mut self, proc: Proc, number: u64) -> Result<Option<u64>, AllocError>
         ensures ok { OnOk result (self.new ≡ finite.insert self.old proc number) }
         ensures before { IfOk result (λ b. b ≡ finite.get self.old proc) }
@@ -68,7 +68,7 @@ impl Numbers {
         Ok(self.rows.insert(proc, number)?)
     }
 
-    /// Gives the process a number, and tells what there was before.
+    /// Gives the process a number, and returns the earlier state.
     pub fn put(&mut self, proc: Proc, number: u64) -> Result<NumberUndo, AllocError>
         ensures before { IfOk result (λ b. number_back self.new b ≡ self.old) }
         ensures ok { OnOk result (self.new ≡ finite.insert self.old proc number) }
@@ -82,14 +82,14 @@ impl Numbers {
         })
     }
 
-    /// Takes a number that was given back. It takes no memory.
+    /// Takes back a number that was given. It takes no memory.
     pub fn rollback(&mut self, before: &NumberUndo)
         ensures { self.new ≡ number_back self.old before.now }
     {
         put_back(&mut self.rows, &before.proc, before.number);
     }
 
-    /// The same numbers, with the same allocator.
+    /// Returns an equal copy, with this allocator.
     pub fn copy(&self) -> Result<Numbers, AllocError>
         ensures { IfOk result (λ copy. copy ≡ self.now) }
     {

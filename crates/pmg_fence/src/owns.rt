@@ -36,7 +36,7 @@ impl Model for Owns {
 }
 
 impl Owns {
-    /// Of no signature. It keeps the allocator.
+    /// Makes an empty map. It keeps the allocator.
     pub fn new(alloc: Global) -> Owns
         ensures { result ≡ finite.empty }
     {
@@ -47,7 +47,7 @@ impl Owns {
         }
     }
 
-    /// Those of the signature, where they are kept.
+    /// Returns the own participants of the signature, if they are kept.
     pub fn get(&self, signature: &Signature) -> Option<&[Proc]>
         ensures { option_map (λ ps. ps.now) result ≡ finite.get self.now signature.now }
     {
@@ -57,7 +57,7 @@ impl Owns {
         }
     }
 
-    /// The signature as it is kept, where it is: copies of that one share its list.
+    /// Returns the kept signature, if there is one; its copies share its list.
     pub fn kept(&self, signature: &Signature) -> Option<&Signature>
         ensures same { IfSome result (λ s. s.now ≡ signature.now) }
         ensures found { is_some result ≡ is_some (finite.get self.now signature.now) }
@@ -68,14 +68,15 @@ impl Owns {
         }
     }
 
-    /// The signatures with the process among those that are kept, and at most some for which an allocation failed.
+    /// Returns the kept signatures that have the process among their own participants. Signatures for which an allocation failed may be
+    /// among them.
     pub fn signatures(&self, proc: &Proc) -> Option<&Signatures>
         ensures { HasSignaturesOf self.now proc.now (found_signatures (option_map (λ s. s.now) result)) }
     {
         self.index.get(proc)
     }
 
-    /// Keeps those of the signature, once it is listed for each of them.
+    /// Keeps the own participants of the signature, after the signature is listed for each of them.
     pub fn insert(&mut self, signature: Signature, own: Vec<Proc>) -> Result<(), AllocError>
         ensures ok { OnOk result (self.new ≡ finite.insert self.old signature own.items) }
         ensures err { OnErr result (self.new ≡ self.old) }
@@ -86,7 +87,7 @@ impl Owns {
         Ok(())
     }
 
-    /// The same participants, with the same allocator.
+    /// Returns an equal copy, with this allocator.
     pub fn copy(&self) -> Result<Owns, AllocError>
         ensures { IfOk result (λ copy. copy ≡ self.now) }
     {

@@ -36,7 +36,7 @@ impl Model for Instances {
 }
 
 impl Instances {
-    /// No fences. It keeps the allocator.
+    /// Makes an empty map. It keeps the allocator.
     pub fn new(alloc: Global) -> Instances
         ensures { result ≡ finite.empty }
     {
@@ -46,21 +46,21 @@ impl Instances {
         }
     }
 
-    /// What is known of the instance.
+    /// Returns the knowledge of the instance.
     pub fn get(&self, instance: u64) -> Option<&Fence>
         ensures { option_map (λ f. f.now) result ≡ finite.get self.now instance }
     {
         self.rows.get(&instance)
     }
 
-    /// The fences, in the order of their instances.
+    /// Returns the fences, in the order of their instances.
     pub fn rows(&self) -> &BTreeMap<u64, Fence>
         ensures { map_of result.now.entries ≡ self.now }
     {
         &self.rows
     }
 
-    /// The same fences, with the same allocator.
+    /// Returns an equal copy, with this allocator.
     pub fn copy(&self) -> Result<Instances, AllocError>
         ensures { IfOk result (λ copy. copy ≡ self.now) }
     {
@@ -70,7 +70,7 @@ impl Instances {
         })
     }
 
-    /// Keeps what becomes known of the instance, and tells what was known before, if anything was.
+    /// Applies the change to the instance, and returns the earlier knowledge, if any.
     pub fn change(&mut self, instance: u64, change: Change) -> Result<Option<FenceUndo>, AllocError>
         ensures before { IfOk result (λ b. instances_back self.new instance b ≡ self.old) }
         ensures ok { OnOk result (self.new ≡ finite.insert self.old instance (fence_changed (fence_in self.old instance) change)) }
@@ -86,7 +86,7 @@ impl Instances {
         Ok(None)
     }
 
-    /// Forgets the instances below the greatest one, which this is, and the one before. It takes no memory.
+    /// Forgets the instances below the greatest one, which is `top`, and the one before. It takes no memory.
     pub fn forget(&mut self, top: u64)
         ensures { self.new ≡ finite.retain_keys self.old (λ k. not (nat_lt (suc k) top)) }
     {
@@ -115,22 +115,22 @@ impl Instances {
     }
 }
 
-/// Whether the instance lies below the greatest one and the one before.
+/// Returns whether the instance is below the greatest one and the one before.
 pub fn is_below(instance: u64, top: u64) -> bool
     ensures { result ≡ nat_lt (suc instance) top }
 {
     instance < top && instance + 1 < top
 }
 
-/// The greater of two instances.
+/// Returns the greater of two instances.
 fn greater_of(one: u64, other: u64) -> u64
     ensures { result ≡ greater_of one other }
 {
     if one < other { other } else { one }
 }
 
-/// The fences of one signature: how often each own process entered them, what is known of each that is kept, and the greatest
-/// instance that was learned or entered, 0 with none.
+/// The fences of one signature: the number of entries of each own process, the knowledge of each kept instance, and the greatest instance
+/// that was learned or entered, 0 without one.
 #[derive(Drop)]
 pub struct Series {
     counts: Numbers,
@@ -150,8 +150,8 @@ impl Model for Series {
     ghost view = { λ a. record { counts = a.counts; fences = a.fences; top = a.top } };
 }
 
-/// What the fences of one signature were before a change, by which it can be taken back: how often the process that entered
-/// had entered, what was known of the instance, if anything was, and which instance was the greatest.
+/// The earlier state of one signature's fences, by which a change can be taken back: the earlier count of the process that entered, the
+/// earlier knowledge of the instance, if any, and the earlier greatest instance.
 pub struct SeriesUndo {
     count: Option<NumberUndo>,
     fence: Option<FenceUndo>,
@@ -164,7 +164,7 @@ impl Drop for SeriesUndo {
     }
 }
 
-/// What the fences of one signature were before a change of the counts alone.
+/// Returns the earlier state for a change that affected only the counts.
 fn nothing_before(count: Option<NumberUndo>, top: u64) -> SeriesUndo
     ensures { result ≡ record { count = count; fence = Some fence_befores.Learned; top = top } }
 {
@@ -176,7 +176,7 @@ fn nothing_before(count: Option<NumberUndo>, top: u64) -> SeriesUndo
 }
 
 impl Series {
-    /// No fences of the signature, and no entries.
+    /// Makes a series without fences and entries.
     pub fn new(alloc: Global) -> Series
         ensures { result ≡ no_series }
     {
@@ -187,43 +187,43 @@ impl Series {
         }
     }
 
-    /// How often the process entered fences of the signature.
+    /// Returns how often the process entered fences of the signature.
     pub fn count(&self, proc: &Proc) -> u64
         ensures { result ≡ unwrap_or (finite.get self.now.counts proc.now) 0 }
     {
         self.counts.get(proc).unwrap_or(0)
     }
 
-    /// What is known of the instance.
+    /// Returns the knowledge of the instance.
     pub fn fence(&self, instance: u64) -> Option<&Fence>
         ensures { option_map (λ f. f.now) result ≡ finite.get self.now.fences instance }
     {
         self.fences.get(instance)
     }
 
-    /// The fences, in the order of their instances.
+    /// Returns the fences, in the order of their instances.
     pub fn rows(&self) -> &BTreeMap<u64, Fence>
         ensures { map_of result.now.entries ≡ self.now.fences }
     {
         self.fences.rows()
     }
 
-    /// Whether the instance lies below the greatest one and the one before.
+    /// Returns whether the instance is below the greatest one and the one before.
     pub fn is_old(&self, instance: u64) -> bool
         ensures { result ≡ nat_lt (suc instance) self.now.top }
     {
         is_below(instance, self.top)
     }
 
-    /// Forgets all instances but the greatest one and the one before. It takes no memory.
+    /// Forgets all instances except the greatest one and the one before. It takes no memory.
     pub fn forget(&mut self)
         ensures { self.new ≡ series_kept self.old }
     {
         self.fences.forget(self.top);
     }
 
-    /// Keeps what becomes known of the instance, and tells what there was before. An entry is the process's entry of that
-    /// number. Of an old instance an entry is counted, and nothing else is kept.
+    /// Applies the change to the instance, and returns the earlier state. An entry is the process's entry of that number. A change of an
+    /// old instance only counts an entry, and keeps nothing else.
     #[tactic(auto, unfolding(crate::specs::Kept::series_changed))]
     pub fn change(&mut self, instance: u64, change: Change) -> Result<SeriesUndo, AllocError>
         ensures before { IfOk result (λ b. series_back self.new instance b ≡ self.old) }
@@ -240,7 +240,7 @@ impl Series {
         }
     }
 
-    /// Counts the entry into an old instance, where the change is one, and tells what there was before.
+    /// Counts the entry into an old instance, if the change is one, and returns the earlier state.
     fn count_old(&mut self, instance: u64, change: Change) -> Result<SeriesUndo, AllocError>
         ensures before { IfOk result (λ b. series_back self.new instance b ≡ self.old) }
         ensures ok { OnOk result (self.new ≡ series_counted self.old (counts_changed self.old.counts instance change)) }
@@ -256,7 +256,7 @@ impl Series {
         }
     }
 
-    /// Keeps what becomes known of the instance without an entry, and tells what was known before.
+    /// Applies a change that is not an entry to the instance, and returns the earlier state.
     fn place(&mut self, instance: u64, change: Change) -> Result<SeriesUndo, AllocError>
         ensures before { IfOk result (λ b. series_back self.new instance b ≡ self.old) }
         ensures ok { OnOk result (self.new ≡ series_placed self.old instance change self.old.counts) }
@@ -272,7 +272,7 @@ impl Series {
         })
     }
 
-    /// Keeps the process's entry into the instance, which is its entry of that number, and tells what there was before.
+    /// Enters the process into the instance, which is its entry of that number, and returns the earlier state.
     fn enter(&mut self, instance: u64, proc: Proc, level: u64) -> Result<SeriesUndo, AllocError>
         ensures before { IfOk result (λ b. series_back self.new instance b ≡ self.old) }
         ensures ok { OnOk result (self.new ≡ series_placed self.old instance (changes.Entered proc level) (finite.insert self.old.counts proc instance)) }

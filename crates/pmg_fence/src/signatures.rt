@@ -25,7 +25,7 @@ impl Model for Signatures {
 }
 
 impl Signatures {
-    /// No signatures.
+    /// Makes an empty set.
     pub fn new(alloc: Global) -> Signatures
         ensures { result ≡ set.empty }
     {
@@ -34,14 +34,14 @@ impl Signatures {
         }
     }
 
-    /// The signatures.
+    /// Returns the signatures.
     pub fn items(&self) -> &BTreeSet<Signature>
         ensures { set.from_list result.now.keys ≡ self.now }
     {
         &self.items
     }
 
-    /// Puts the signature among them.
+    /// Adds the signature.
     pub fn insert(&mut self, signature: Signature) -> Result<(), AllocError>
         ensures ok { OnOk result (self.new ≡ set.insert self.old signature) }
         ensures err { OnErr result (self.new ≡ self.old) }

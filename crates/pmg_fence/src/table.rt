@@ -32,11 +32,11 @@ use std::collections::VecDeque;
 use std::marker::Model;
 use std::mem;
 
-/// What one node knows of fences: which of its own processes entered them and at which level, which ended, and what the
-/// headers of other nodes tell (PMIx Standard 5.0, PMIx_Fence). Fences are told apart by their signature, that is by their
-/// participants and by whether data is collected; each participant's k-th entry meets the k-th of each other. Of each signature
-/// the greatest instance that was learned or entered is kept, and the one before; those below are old and forgotten, but how often
-/// each process entered is not.
+/// The fence table of one node (PMIx Standard 5.0, PMIx_Fence): the entries of its own processes with their levels, the ends of its own
+/// processes, and the headers of other nodes. A signature identifies fences by their participants and by whether data is collected; the
+/// k-th entry of each participant meets the k-th entries of the others. The table keeps two instances of each signature: the greatest one
+/// that was learned or entered, and the one before. Instances below these are old and forgotten, but the number of entries of each process
+/// stays.
 pub struct Table {
     node: NodeId,
     registry: Registry,
@@ -73,7 +73,7 @@ impl Model for Table {
     ghost invariant = { λ a. IsKept (known_of a.registry a.node a.series a.ends a.waiting.items) a.owns };
 }
 
-/// The index of the process's home: 0 for a process that is not registered.
+/// Returns the index of the process's home: 0 for a process that is not registered.
 fn home_of(registry: &Registry, proc: &Proc) -> u32
     ensures { result ≡ home_of registry.now proc.now }
 {
@@ -86,7 +86,7 @@ fn home_of(registry: &Registry, proc: &Proc) -> u32
     }
 }
 
-/// The level at which the process entered the fence, if it did.
+/// Returns the level at which the process entered the fence, if it did.
 fn level_in(fence: Option<&Fence>, proc: &Proc) -> Option<u64>
     ensures { result ≡ finite.get (known_fence (option_map (λ f. f.now) fence.entry)).levels proc.now }
 {
@@ -96,7 +96,7 @@ fn level_in(fence: Option<&Fence>, proc: &Proc) -> Option<u64>
     }
 }
 
-/// How many processes entered the fence.
+/// Returns the number of processes that entered the fence.
 fn count_in(fence: Option<&Fence>) -> usize
     ensures value { result ≡ finite.len (known_fence (option_map (λ f. f.now) fence.entry)).levels }
     ensures small { result < 2 ^ 63 }
@@ -107,7 +107,7 @@ fn count_in(fence: Option<&Fence>) -> usize
     }
 }
 
-/// How the process stands to the fence, as the header of the node of that index tells.
+/// Returns the entry of the process in the header of the node of that index.
 fn told_in(fence: Option<&Fence>, home: u32, proc: &Proc) -> Option<Entry>
     ensures { result ≡ entry_in proc.now (finite.get (known_fence (option_map (λ f. f.now) fence.entry)).headers home) }
 {
@@ -117,7 +117,7 @@ fn told_in(fence: Option<&Fence>, home: u32, proc: &Proc) -> Option<Entry>
     }
 }
 
-/// What a table was before a change, by which that can be taken back: how many headers waited, and what was known of the
+/// The earlier state of a table, by which a change can be taken back: the number of headers that waited, and the earlier knowledge of the
 /// fence or of the process.
 #[derive(Drop)]
 pub struct TableUndo<'a> {
@@ -125,7 +125,7 @@ pub struct TableUndo<'a> {
     change: ChangeBefore<'a>,
 }
 
-/// What was known of a fence, of whose signature there may have been none, or of a process's end.
+/// The earlier knowledge of a fence, if its signature had a series, or of a process's end.
 enum ChangeBefore<'a> {
     Fence(&'a FenceName, Option<SeriesUndo>),
     End(NumberUndo),
@@ -141,7 +141,7 @@ impl<'a> Drop for ChangeBefore<'a> {
 }
 
 impl Table {
-    /// A table of no fences, for the node of that index, with its group's registry. It keeps the registry's allocator.
+    /// Makes a table of no fences, for the node of that index, with its group's registry. It keeps the registry's allocator.
     pub fn new(node: NodeId, registry: Registry) -> Table
         ensures jobs { result.jobs ≡ registry }
         ensures node { result.node ≡ node }
@@ -159,14 +159,14 @@ impl Table {
         }
     }
 
-    /// The registry of the group.
+    /// Returns the registry of the group.
     pub fn registry(&self) -> &Registry
         ensures { result.now ≡ self.now.jobs }
     {
         &self.registry
     }
 
-    /// Another table of the same meaning, with the same allocator.
+    /// Returns another table with equal content and with this allocator.
     pub fn copy(&self) -> Result<Table, AllocError>
         ensures { IfOk result (λ copy. copy ≡ self.now) }
     {
@@ -180,14 +180,14 @@ impl Table {
         })
     }
 
-    /// Whether the process is at home at the node.
+    /// Returns whether the process is at home at the node.
     fn is_own(&self, proc: &Proc) -> bool
         ensures { result ≡ (home_of self.now.jobs proc.now == self.now.node) }
     {
         home_of(&self.registry, proc) == self.node.index()
     }
 
-    /// How often the process entered fences of the signature.
+    /// Returns how often the process entered fences of the signature.
     pub fn count(&self, signature: &Signature, proc: &Proc) -> u64
         ensures value { result ≡ count_of self.now.fences signature.now proc.now }
     {
@@ -197,7 +197,7 @@ impl Table {
         }
     }
 
-    /// The same signature, whose list copies share: that of the one that is kept, where it is.
+    /// Returns an equal signature whose copies share one list: the list of the kept signature, if the table keeps it.
     pub fn share(&self, signature: Signature) -> Result<Signature, AllocError>
         ensures { IfOk result (λ s. s ≡ signature) }
     {
@@ -207,7 +207,7 @@ impl Table {
         }
     }
 
-    /// What is known of the fence.
+    /// Returns the knowledge of the fence.
     fn fence(&self, signature: &Signature, instance: u64) -> Option<&Fence>
         ensures value { option_map (λ f. f.now) result ≡ finite.get (series_at self.now.fences signature.now).fences instance }
         ensures number { IsTrue (is_some result) → IsTrue (is_instance instance) }
@@ -218,7 +218,7 @@ impl Table {
         }
     }
 
-    /// Whether the instance of the signature is old.
+    /// Returns whether the instance of the signature is old.
     fn is_old_at(&self, signature: &Signature, instance: u64) -> bool
         ensures { result ≡ nat_lt (suc instance) (series_at self.now.fences signature.now).top }
     {
@@ -228,21 +228,22 @@ impl Table {
         }
     }
 
-    /// Whether the fence is old: its instance lies below the greatest one of its signature and the one before, and is forgotten.
+    /// Returns whether the fence is old. An old fence is forgotten: its instance is below the greatest one of its signature and the one
+    /// before.
     pub fn is_old(&self, name: &FenceName) -> bool
         ensures { result ≡ is_old self.now.fences name.now }
     {
         self.is_old_at(name.signature(), name.instance())
     }
 
-    /// Of the signature's fences forgets all but those of the greatest instance and of the one before. It takes no memory.
+    /// Forgets the signature's fences, except the greatest instance and the one before. It takes no memory.
     pub fn forget(&mut self, signature: &Signature)
         ensures { self.new ≡ with_fences self.old (forgotten self.old.fences signature.now) }
     {
         self.series.forget(signature);
     }
 
-    /// How the own process stands to the fence.
+    /// Returns the entry of the own process in the fence.
     fn entry(&self, fence: Option<&Fence>, proc: &Proc) -> Option<Entry>
         ensures { result ≡ entry_with (known_fence (option_map (λ f. f.now) fence.entry)) self.now.fences.ends proc.now }
     {
@@ -262,9 +263,9 @@ impl Table {
         }
     }
 
-    /// The process enters its next fence of the signature, after so many commits: the number of the entry, which is the
-    /// instance, is given. Where this completes the node's header, that waits to be taken. Into an old fence the entry alone is
-    /// counted. Refused as TooMany past 4294967295 entries, and as NoMemory.
+    /// Enters the process into its next fence of the signature, after so many commits, and returns the number of the entry, which is the
+    /// instance. If the entry completes the node's header, this header waits to be taken. An entry into an old fence is only counted.
+    /// Errors: `TooMany` past 4294967295 entries; `NoMemory`.
     pub fn enter(&mut self, signature: &Signature, proc: &Proc, level: u64) -> Result<u64, Refusal>
         requires { level ≤ MAX_COMMIT }
         ensures answer { Gives (λ n. n) result (enter_answer self.old.fences signature.now proc.now) }
@@ -287,8 +288,8 @@ impl Table {
         Ok(count + 1)
     }
 
-    /// Keeps the fence's name. Where each own participant ended already, the node's header waits to be taken. Of an old fence
-    /// nothing is kept.
+    /// Keeps the fence's name. If each own participant has already ended, the node's header waits to be taken. For an old fence nothing is
+    /// kept.
     pub fn learn(&mut self, name: &FenceName) -> Result<(), AllocError>
         ensures ok { OnOk result (self.new ≡ fence_changed_at self.old name.now (learned self.old.fences name.now)) }
         ensures err { OnErr result (self.new ≡ self.old) }
@@ -301,8 +302,8 @@ impl Table {
         Ok(())
     }
 
-    /// Keeps the header and the fence's name. The first header of a node counts: a later one changes nothing. Of an old fence
-    /// nothing is kept.
+    /// Keeps the header and the fence's name. The first header of a node counts: a later one changes nothing. For an old fence nothing is
+    /// kept.
     pub fn put_header(&mut self, header: Header) -> Result<(), AllocError>
         ensures ok { OnOk result (self.new ≡ fence_changed_at self.old header.name (with_header self.old.fences header)) }
         ensures err { OnErr result (self.new ≡ self.old) }
@@ -321,8 +322,7 @@ impl Table {
         Ok(())
     }
 
-    /// Takes the next own header: those that have come to exist, the first one first, and of those that one call brought
-    /// in the order of their names.
+    /// Takes the next own header, in the order in which they began to exist. Headers that one call brought are in the order of their names.
     pub fn take_header(&mut self) -> Option<Header>
         ensures header { self.old.waiting ≡ option_to_list result ++ self.new.waiting }
         ensures empty { result ≡ None → self.old.waiting ≡ [] }
@@ -331,7 +331,7 @@ impl Table {
         self.waiting.pop_front()
     }
 
-    /// Takes all own headers that wait, in the order in which they came to exist. It takes no memory.
+    /// Takes all own headers that wait, in the order in which they began to exist. It takes no memory.
     pub fn take_headers(&mut self) -> VecDeque<Header>
         ensures headers { result.items ≡ self.old.waiting }
         ensures rest { self.new ≡ taken self.old [] }
@@ -339,7 +339,7 @@ impl Table {
         mem::replace(&mut self.waiting, VecDeque::new(self.series.allocator()))
     }
 
-    /// Whether there is something to tell of each own participant.
+    /// Returns whether each own participant has an entry.
     fn is_whole(&self, signature: &Signature, fence: Option<&Fence>) -> bool
         ensures { result ≡ is_some (collected_locals (entry_with (known_fence (option_map (λ f. f.now) fence.entry)) self.now.fences.ends)
             (own_of self.now signature.now)) }
@@ -355,8 +355,7 @@ impl Table {
         true
     }
 
-    /// How the participant stands to the fence, as the header of its home tells, where that is there; whether the own one is
-    /// there is known.
+    /// Returns the entry of the participant in the header of its home, if this header exists. `whole` says whether the own header exists.
     fn standing_in(&self, fence: Option<&Fence>, whole: bool, proc: &Proc) -> Option<Entry>
         ensures { result ≡ standing_in self.now (known_fence (option_map (λ f. f.now) fence.entry)) whole proc.now }
     {
@@ -370,7 +369,7 @@ impl Table {
         self.entry(fence, proc)
     }
 
-    /// Whether the header of its home calls the participant gone.
+    /// Returns whether the header of its home calls the participant gone.
     fn is_told_gone(&self, fence: Option<&Fence>, whole: bool, proc: &Proc) -> bool
         ensures { result ≡ says_gone (standing_in self.now (known_fence (option_map (λ f. f.now) fence.entry)) whole proc.now) }
     {
@@ -380,7 +379,7 @@ impl Table {
         }
     }
 
-    /// The participants that the headers call gone, rising and each once: those that had ended before they entered.
+    /// Returns the participants that the headers call gone, rising and each once: they ended before they entered.
     pub fn release(&self, name: &FenceName) -> Result<Vec<Proc>, AllocError>
         ensures { IfOk result (λ ps. ps.items ≡ gone_by self.now.jobs self.now.node self.now.fences name.now) }
     {
@@ -396,8 +395,8 @@ impl Table {
         Ok(gone)
     }
 
-    /// Whether the fence is ready, where the node knows of each process its commits up to a level: it is not old, of each
-    /// participant the header of its home tells, and where the fence collects data, the participant's level there is known.
+    /// Returns whether the fence is ready, given the level up to which the node knows each process's commits. A ready fence is not old, and
+    /// each participant has an entry in the header of its home. If the fence collects data, the level of this entry is known.
     pub fn ready<L: Fn(&Proc) -> u64>(&self, name: &FenceName, levels: L) -> bool
         requires { L.IsAlwaysCallable levels }
         ensures { (level : Proc → ℕ) → ((p : Proc) (n : ℕ) → FnReturnsAt L.Fn levels p n → n ≡ level p)
@@ -426,8 +425,8 @@ impl Table {
         true
     }
 
-    /// The process ends, after so many commits, its end among them. It counts as gone in each fence that it has not entered,
-    /// those that are learned later among them. The node's headers that this completes wait to be taken.
+    /// Ends the process, after so many commits, including its end. The process counts as gone in each fence that it has not entered, also
+    /// in fences that are learned later. The node's headers that the end completes wait to be taken.
     pub fn gone(&mut self, proc: &Proc, level: u64) -> Result<(), AllocError>
         requires { level ≤ MAX_COMMIT }
         ensures ok { OnOk result (self.new ≡ changed self.old (ended_by self.old.fences proc.now level)) }

@@ -1,4 +1,4 @@
--- Runs of a small group, worked out by hand: what the laws of every run speak of does happen.
+-- Runs of a small group, worked out by hand. They are witnesses that the laws of every run are not vacuous.
 use Rattle.std.specs.Prelude.{ℕ, ◌≡◌, true, false, List, [], ◌∷◌, ◌++◌, Some, None, codes}
 use Rattle.pmg_value.specs.Lists.{In}
 use Rattle.pmg_value.specs.Signatures.{FenceName}
@@ -40,7 +40,7 @@ meeting = fence_name (name_fields true 1 (j0 ∷ j1 ∷ []))
 abbrev pub its_key : Get
 its_key = record { target = j0; key = codes "a" }
 
--- the value that is put there: one, as a `u8`, in canonical bytes
+-- the value that the process puts there: one, as a `u8`, in canonical bytes
 abbrev pub its_value : List ℕ
 its_value = 9 ∷ 1 ∷ []
 
@@ -56,7 +56,7 @@ second_node = 1
 abbrev pub happened_with : Event → Reply → Happened
 happened_with event reply = record { event = event; reply = reply }
 
--- Three frames come, of the numbers given. Before the last one the second process asks again whether it is released, and still waits.
+-- Three frames arrive, with the given numbers. Before the last one the second process asks again whether it is released, and still waits.
 abbrev pub come_around : (first second last : ℕ) → List Happened
 come_around first second last =
     happened_with (Event.deliver first) Reply.taken
@@ -65,9 +65,8 @@ come_around first second last =
     ∷ happened_with (Event.deliver last) Reply.taken
     ∷ []
 
--- One process ends; the other enters a fence of both that collects data. Its node's header reaches the other node, which tells
--- its own in turn, and sends the commit that the end was. The process waits for that header, then for the commit that the
--- header names.
+-- One process ends; the other enters a fence of both that collects data. Its node's header reaches the other node, which sends its own
+-- header in turn, and the commit of the end. The process waits for that header, then for the commit that the header names.
 abbrev pub ends_and_meets : List Happened
 ends_and_meets =
     happened_with (Event.request first_node (Request.terminate j0)) (Reply.ended 1)
@@ -75,9 +74,9 @@ ends_and_meets =
     ∷ happened_with (Event.request second_node (Request.leave j1)) Reply.waiting
     ∷ come_around 1 2 3
 
--- Both meet. The one process puts a value for all and commits it, and enters a fence of both that collects data; then the other one
--- enters. Each node's header reaches the other node. The second process waits for the first one's header, which was sent and not
--- delivered, then for the commit that the header names, whose piece comes last.
+-- Both meet. The one process puts a value for all, commits it, and enters a fence of both that collects data; then the other one enters.
+-- Each node's header reaches the other node. The second process waits for the first one's header, which was sent and not delivered, then
+-- for the commit that the header names. The piece with this commit arrives last.
 abbrev pub puts_and_meets : List Happened
 puts_and_meets =
     happened_with (Event.put j0 scopes.Global its_key.key its_value) Reply.done
@@ -87,9 +86,9 @@ puts_and_meets =
     ∷ happened_with (Event.request second_node (Request.leave j1)) Reply.waiting
     ∷ come_around 3 1 2
 
--- There is a run of these events, of jobs as every group's are. At its end the second process is released from the fence that it
--- entered last, in which the first one takes part, and is told who is gone. Then it gets the key of the first one, waiting if need
--- be, and is answered so. So all that the fence theorem asks for is there.
+-- A run of these events exists, and its jobs satisfy `AreJobs`. At its end the second process is released from the fence that it entered
+-- last, in which the first one takes part, with the gone participants. Then the second process gets the key of the first one with `Wait`,
+-- and receives this answer. Therefore all hypotheses of the fence theorem are met.
 abbrev pub IsReleased : List Happened → List Proc → Reply → Type 0
 IsReleased xs gone answer =
     AreJobs two × (w : World) × Run two (start two) xs w
@@ -98,17 +97,17 @@ IsReleased xs gone answer =
     × In j0 (participants_of meeting) × (same_proc j1 j0 ≡ false)
     × (u : World) × Run two v (happened_with (Event.request second_node (Request.ask j1 its_key modes.Wait)) answer ∷ []) u
 
--- Where the first process ended, it is told to be gone; and that there is no value, which it never put, is told at once, since its end
--- is known.
+-- The first process ended, so its end is in the list of gone participants. The get is refused at once as `NotFound`: the process never put
+-- a value, and its end is known.
 unfoldable pub RunOfTwo : Type 0
 RunOfTwo = IsReleased ends_and_meets (j0 ∷ []) (Reply.refused refusals.NotFound)
 
--- Where both meet, nobody is gone; and the value is found.
+-- Both processes meet: no participant is gone, and the get finds the value.
 unfoldable pub RunOfMeeting : Type 0
 RunOfMeeting = IsReleased puts_and_meets [] (Reply.found its_value)
 
--- A get that waits. One process puts a value for all and commits it; then the other one gets its key, of which its own node knows
--- nothing, and waits. The node asks the home of the key's process, which sends the commit.
+-- A get that waits. One process puts a value for all and commits it; then the other one gets its key and waits, because its own node knows
+-- nothing of the first process. The node asks the home of the key's process, which sends the commit.
 abbrev pub asks_and_waits : List Happened
 asks_and_waits =
     happened_with (Event.put j0 scopes.Global its_key.key its_value) Reply.done
@@ -118,11 +117,12 @@ asks_and_waits =
     ∷ happened_with (Event.deliver 2) Reply.taken
     ∷ []
 
--- then it takes the answer
+-- then the process takes the answer
 abbrev pub takes_the_value : Happened
 takes_the_value = happened_with (Event.request second_node (Request.take j1)) (Reply.found its_value)
 
--- There is a run of these events, and at its end the process takes the answer. So its get was answered once: when it took that.
+-- A run of these events exists, and at its end the process takes the answer. Therefore its get was answered exactly once, when it took the
+-- answer.
 unfoldable pub RunOfWaiting : Type 0
 RunOfWaiting =
     (w : World) × Run two (start two) asks_and_waits w × (v : World) × Run two w (takes_the_value ∷ []) v
@@ -130,14 +130,14 @@ RunOfWaiting =
 
 -- ---- a get that asks anew
 
--- what is before the get: one process puts a value for all and commits it
+-- the events before the get: one process puts a value for all and commits it
 abbrev pub puts_it : List Happened
 puts_it =
     happened_with (Event.put j0 scopes.Global its_key.key its_value) Reply.done
     ∷ happened_with (Event.commit first_node j0) (Reply.committed 1)
     ∷ []
 
--- while the get waits: the request comes to the home of the key's process, then the reply comes
+-- the events while the get waits: the request reaches the home of the key's process, then the reply arrives
 abbrev pub asked_and_replied : List Happened
 asked_and_replied = happened_with (Event.deliver 1) Reply.taken ∷ happened_with (Event.deliver 2) Reply.taken ∷ []
 
@@ -145,8 +145,8 @@ asked_and_replied = happened_with (Event.deliver 1) Reply.taken ∷ happened_wit
 abbrev pub asks_anew_and_takes : List Happened
 asks_anew_and_takes = puts_it ++ asks_with second_node j1 its_key ∷ (asked_and_replied ++ takes_with second_node j1 (Reply.found its_value) ∷ [])
 
--- There is a run of these events. The process stays in its get until it takes an answer, which is told as a get's that looks only
--- at what its node holds. So all that the refresh theorem asks for is there.
+-- A run of these events exists. The process stays in its get until it takes the answer, which counts as an answer of mode `Now`. Therefore
+-- all hypotheses of the refresh theorem are met.
 unfoldable pub RunOfRefreshing : Type 0
 RunOfRefreshing =
     (w : World) × Run two (start two) asks_anew_and_takes w × StaysIn j1 (wanted_anew its_key) asked_and_replied
@@ -159,7 +159,7 @@ RunOfRefreshing =
 abbrev pub lone : Jobs
 lone = registered (opened (codes "n0" ∷ [])) (codes "j") (0 ∷ 0 ∷ [])
 
--- the fence of that instance of both that collects no data
+-- the fence of that instance of both, without collected data
 abbrev pub round : ℕ → FenceName
 round k = fence_name (name_fields false k (j0 ∷ j1 ∷ []))
 
@@ -175,8 +175,8 @@ both_meet k = enters_round k j0 ∷ enters_round k j1 ∷ leaves_with first_node
 abbrev pub meet_twice_and_wait : List Happened
 meet_twice_and_wait = both_meet 1 ++ (both_meet 2 ++ enters_round 3 j0 ∷ [])
 
--- There is a run of these events, of jobs as every group's are. At its end the first process waits in the third fence, whose name the
--- node has, and the first fence is old: the node has forgotten it. So a process does wait at a node that forgot something.
+-- A run of these events exists, and its jobs satisfy `AreJobs`. At its end the first process waits in the third fence, whose name the node
+-- has. The first fence is old, and the node has forgotten it. Therefore a process can wait at a node that forgot a fence.
 unfoldable pub RunOfThree : Type 0
 RunOfThree =
     AreJobs lone × (w : World) × Run lone (start lone) meet_twice_and_wait w

@@ -1,4 +1,4 @@
--- Which fences of a signature a node keeps.
+-- The fences of a signature that a node keeps.
 use Rattle.std.specs.Prelude.{◌≡◌, ◌⊎◌, ℕ, suc, true, List}
 use Rattle.pmg_value.specs.Signatures.{FenceName}
 use Rattle.pmg_value.specs.declared.process.Proc.{Proc}
@@ -8,14 +8,14 @@ use Rattle.pmg_node_model.specs.Kept.{top_in}
 use Rattle.pmg_node_model.specs.Sending.{WaitsIn}
 use Rattle.pmg_group_model.specs.Worlds.{World, Happened, Run, start}
 
--- After each step a node keeps at most two instances of one signature: the greatest that it learned or entered, and the one before.
+-- After each step a node keeps at most two instances of each signature: the greatest that it learned or entered, and the one before.
 abbrev pub KeepsTwo : Type 0
 KeepsTwo =
     (jobs : Jobs) → AreJobs jobs → (xs : List Happened) (w : World) → Run jobs (start jobs) xs w
     → (node : ℕ) (f : FenceName) → has_name (w.nodes node).table f ≡ true
     → (f.instance ≡ top_in (w.nodes node).table f.signature) ⊎ (suc f.instance ≡ top_in (w.nodes node).table f.signature)
 
--- And it keeps each fence in which a process of its own waits.
+-- A node keeps each fence in which one of its own processes waits.
 abbrev pub KeepsWaiting : Type 0
 KeepsWaiting =
     (jobs : Jobs) → AreJobs jobs → (xs : List Happened) (w : World) → Run jobs (start jobs) xs w

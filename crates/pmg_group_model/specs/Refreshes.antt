@@ -1,4 +1,4 @@
--- What holds of gets that ask anew.
+-- Gets that ask anew.
 use Rattle.std.specs.Prelude.{◌≡◌, List, Some}
 use Rattle.pmg_value.specs.Lists.{Each}
 use Rattle.pmg_value.specs.declared.process.Proc.{Proc}
@@ -7,7 +7,7 @@ use Rattle.pmg_node_model.specs.Holdings.{Get}
 use Rattle.pmg_group_model.specs.Laws.{Wanted, wanted_after}
 use Rattle.pmg_group_model.specs.Worlds.{Happened}
 
--- the get, which asks anew
+-- the get, in the mode that asks anew
 abbrev pub wanted_anew : Get → Wanted
 wanted_anew get = record { get = get; mode = modes.Refresh }
 

@@ -1,4 +1,4 @@
--- Fences in turn: which were entered, and that none is run past.
+-- Fences in turn: each fence in use was entered, and no process runs past an open fence.
 use Rattle.std.specs.Prelude.{◌≡◌, ◌⊎◌, ℕ, ◌<◌, ◌≤◌, true, false, List, Some}
 use Rattle.pmg_value.specs.Lists.{In, Each}
 use Rattle.pmg_value.specs.Signatures.{Signature, FenceName}
@@ -24,7 +24,7 @@ WasEntered scripts f = (q : Proc) × (level : ℕ) × (level_before (scripts q) 
 abbrev pub IsOver : Scripts → FenceName → Type 0
 IsOver scripts f = (q : Proc) → In q (participants_of f) → (e : Entry) × (entry (scripts q) f ≡ Some e)
 
--- a frame names only fences that were entered
+-- a frame names only fences that some process entered
 abbrev pub NamesEntered : Scripts → Frame → Type 0
 NamesEntered scripts (frames.Piece c) = Unit {0}
 NamesEntered scripts (frames.Header hd) = WasEntered scripts hd.name
@@ -34,42 +34,42 @@ NamesEntered scripts (frames.DirectAsk a) = Unit {0}
 NamesEntered scripts (frames.RefreshAsk a) = Unit {0}
 NamesEntered scripts (frames.RefreshReply r) = Unit {0}
 
--- a process is in the fence: the node has its name unless it is old, the process takes part, and it was entered
+-- a process waits in the fence: the node has the fence's name unless it is old, the process takes part, and some process entered the fence
 pub record Waits (scripts : Scripts) (t : Fences) (p : Proc) (f : FenceName) : Type 0 where
   pub named : is_old t f ≡ false → has_name t f ≡ true
   pub part : In p (participants_of f)
   pub entered : WasEntered scripts f
 
--- each name that a node has was entered, and so was the greatest instance of each signature, and each fence that a process is in
+-- some process entered each fence in the node's table, the greatest instance of each signature, and each fence that a process waits in
 pub record AreNamed (scripts : Scripts) (h : NodeState) : Type 0 where
   pub names : (f : FenceName) → has_name h.table f ≡ true → WasEntered scripts f
   pub tops : (g : Signature) → 0 < top_in h.table g → WasEntered scripts (fence_of g (top_in h.table g))
   pub calls : (p : Proc) (f : FenceName) → call_of h p ≡ Some (CallState.in_fence f) → Waits scripts h.table p f
 
--- of the fences of one signature that a process entered each is over, or it is in that one, or it ended
+-- each fence of a signature that a process entered is over, or the process waits in it, or the process has ended
 abbrev pub ArePast : Scripts → NodeState → Proc → Type 0
 ArePast scripts h p =
     (g : Signature) (k : ℕ) → 0 < k → k ≤ enters (scripts p) g
     → IsOver scripts (fence_of g k) ⊎ ((call_of h p ≡ Some (CallState.in_fence (fence_of g k))) ⊎ (has_end (scripts p) ≡ true))
 
--- of the fences of one signature that a process entered each but the last is over
+-- each fence of a signature that a process entered, except the last, is over
 abbrev pub IsInTurn : Scripts → Proc → Type 0
 IsInTurn scripts p = (g : Signature) (k : ℕ) → 0 < k → k < enters (scripts p) g → IsOver scripts (fence_of g k)
 
--- What holds after every step: nodes and frames name only fences that were entered; and of those of one signature that
--- a process entered each is over, but the last need not be while the process is in it, or once it has ended.
+-- The invariant of every step. Nodes and frames name only fences that some process entered. Each fence of a signature that a process
+-- entered is over, except possibly the last one. The last one may be open while the process waits in it, or after the process has ended.
 pub record Turned (jobs : Jobs) (w : World) : Type 0 where
   pub named : (node : ℕ) → AreNamed w.scripts (w.nodes node)
   pub past : (p : Proc) → ArePast w.scripts (w.nodes (home_of jobs p)) p
   pub turn : (p : Proc) → IsInTurn w.scripts p
   pub frames : Each (λ s. NamesEntered w.scripts s.frame) w.sent
 
--- Each fence whose name a node has was entered by some process.
+-- Each fence in a node's table was entered by some process.
 abbrev pub NamesWereEntered : Type 0
 NamesWereEntered =
     (jobs : Jobs) → AreJobs jobs → (xs : List Happened) (w : World) → Run jobs (start jobs) xs w
     → (node : ℕ) (f : FenceName) → has_name (w.nodes node).table f ≡ true → WasEntered w.scripts f
 
--- No process runs past a fence: before it enters the next one of the signature, the one before is over.
+-- No process runs past an open fence: before a process enters the next fence of a signature, the fence before is over.
 abbrev pub AlwaysInTurn : Type 0
 AlwaysInTurn = (jobs : Jobs) → AreJobs jobs → (xs : List Happened) (w : World) → Run jobs (start jobs) xs w → (p : Proc) → IsInTurn w.scripts p

@@ -1,4 +1,4 @@
--- The world: the scripts of all processes, what each node holds, and all frames ever sent; its steps, and its runs.
+-- The world: the scripts of all processes, the state of each node, and all frames ever sent; its steps, and its runs.
 use Rattle.std.specs.Prelude.{◌≡◌, ℕ, zero, suc, Bool, false, ◌==◌, ◌&&◌, not, List, [], ◌∷◌, ◌++◌, Option, Some, None, Result, Ok, Err, if◌then◌else◌}
 use Rattle.pmg_value.specs.CheckOrder.{first_of}
 use Rattle.pmg_value.specs.Names.{is_reserved}
@@ -23,7 +23,7 @@ use Rattle.pmg_node_model.specs.declared.sent.Sent.{Sent}
 
 -- ---- a client's cache
 
--- what the client's cache holds after these calls, where it held this before
+-- the client's cache after these calls, from this cache
 abbrev pub cache_from : Cached → Script → Cached
 cache_from c [] = c
 cache_from c (Call.put scope key value ∷ cs) = cache_from (with_put c scope key value) cs
@@ -31,32 +31,31 @@ cache_from c (Call.commit ∷ cs) = cache_from (after_commit c) cs
 cache_from c (Call.enter g ∷ cs) = cache_from c cs
 cache_from c (Call.terminate ∷ cs) = cache_from c cs
 
--- what the client's cache holds after these calls of its process
+-- the client's cache after these calls of its process
 unfoldable pub cache_of : Script → Cached
 cache_of s = cache_from no_puts s
 
 -- ---- the world
 
--- The calls that each process made; what each node holds, by its index; and all frames ever sent, each with the node that it was
--- sent to.
+-- The calls of each process, the state of each node by its index, and all frames ever sent. A frame has the node that it was sent to.
 pub record World : Type 0 where
   pub scripts : Scripts
   pub nodes : ℕ → NodeState
   pub sent : List Sent
 
--- nobody has called, and nothing was sent
+-- the initial world: no process has called, and no frame was sent
 abbrev pub start : Jobs → World
 start jobs = record { scripts = λ _. []; nodes = λ node. new_holding jobs node; sent = [] }
 
--- What happens: a put of a process; its commit, at a node; a request, at a node; the delivery of a frame that was sent, by its number
--- among all frames ever sent, from 1. A frame may be delivered at any time, again, or never.
+-- An event: a put of a process; its commit, at a node; a request, at a node; or the delivery of a frame, by its number among all frames
+-- ever sent, from 1. A frame may be delivered at any time, repeatedly, or never.
 pub data Event : Type 0 where
   put : Proc → Scope → List ℕ → List ℕ → Event
   commit : ℕ → Proc → Event
   request : ℕ → Request → Event
   deliver : ℕ → Event
 
--- what an event is: an act of a node; or a call that its client's cache alone answers, with what that adds to its script
+-- the effect of an event: an act of a node; or a call that only the client's cache answers, with the calls that it adds to the script
 pub data Doing : Type 0 where
   at_node : ℕ → Act → Doing
   by_cache : Result Reply Refusal → Option Said → Doing
@@ -65,29 +64,29 @@ pub data Doing : Type 0 where
 abbrev pub not_there : Doing
 not_there = Doing.by_cache (Err refusals.BadParam) None
 
--- what is done at the node, if there is such a node
+-- the effect at the node, if there is such a node
 abbrev pub if_node : Jobs → ℕ → Doing → Doing
 if_node jobs node doing = if is_node jobs node then doing else not_there
 
--- no one process is named
+-- the process has no particular rank
 abbrev pub rank_cause : Proc → Refusal → Bool
 rank_cause p refusals.BadParam = is_general p
 rank_cause p _ = false
 
--- where a get of a key of one's own has a cause to be refused
+-- the causes to refuse a get of the caller's own key
 abbrev pub own_cause : Jobs → ℕ → NodeState → Proc → Refusal → Bool
 own_cause jobs node h p = also (free_cause jobs node h p) (rank_cause p)
 
--- a get of a key of one's own is answered with one's own last put
+-- a get of the caller's own key is answered with the caller's own last put
 abbrev pub own_get : Jobs → World → ℕ → Proc → List ℕ → Mode → Doing
 own_get jobs w node p key mode =
     Doing.by_cache (first_of (own_cause jobs node (w.nodes node) p) (reply_of (resolve (Seen.own (last_put reach.Own key (w.scripts p))) mode))) None
 
--- a process gets a key of its own that is none of the standard's
+-- a process gets a key of its own that the standard does not reserve
 abbrev pub is_own : Proc → Get → Bool
 is_own p get = same_proc p get.target && not (is_reserved get.key)
 
--- what a request is: a get of a key of one's own is answered by the cache; any other is an act of the node
+-- the effect of a request: the cache answers a get of the caller's own key, and any other request is an act of the node
 abbrev pub requests : Jobs → World → ℕ → Request → Doing
 requests jobs w node (Request.ask p get mode) = if is_own p get then own_get jobs w node p get.key mode else Doing.at_node node (Act.request (Request.ask p get mode))
 requests jobs w node r = Doing.at_node node (Act.request r)
@@ -103,19 +102,19 @@ abbrev pub numbered : {A : Type 0} → List A → ℕ → Option A
 numbered xs zero = None
 numbered xs (suc i) = nth xs i
 
--- what a delivery is: an act of the node that the frame was sent to, if there is such a frame
+-- the effect of a delivery: an act of the node that the frame was sent to, if there is such a frame
 abbrev pub delivers : Option Sent → Doing
 delivers None = not_there
 delivers (Some s) = Doing.at_node s.to (Act.deliver s.frame)
 
--- a put is refused where its caller is, or the cache does
+-- a put is refused if its caller has a cause, or if the cache has one
 abbrev pub puts : Jobs → World → Proc → Scope → List ℕ → List ℕ → Doing
 puts jobs w p scope key value =
     Doing.by_cache
     (first_of (also (free_cause jobs (home_of jobs p) (w.nodes (home_of jobs p)) p) (put_cause (cache_of (w.scripts p)) scope key value)) Reply.done)
     (said_by p (Call.put scope key value ∷ []))
 
--- what an event is in that world
+-- the effect of an event in that world
 unfoldable pub doing : Jobs → World → Event → Doing
 doing jobs w (Event.put p scope key value) = puts jobs w p scope key value
 doing jobs w (Event.commit node p) = if_node jobs node (Doing.at_node node (Act.commit p (unsealed_of (cache_of (w.scripts p)))))
@@ -124,11 +123,11 @@ doing jobs w (Event.deliver i) = delivers (numbered w.sent i)
 
 -- ---- steps
 
--- what each node holds, where that one holds this
+-- the states of all nodes, after this node changes to this state
 abbrev pub with_holding_at : (ℕ → NodeState) → ℕ → NodeState → ℕ → NodeState
 with_holding_at nodes node h m = if m == node then h else nodes m
 
--- An act of one node: what it holds then, and what it sends; its script has what was said.
+-- An act of one node in the world: the node's new state, the frames that it sends, and the calls that the act adds to the scripts.
 pub record ActStep (jobs : Jobs) (w : World) (node : ℕ) (a : Act) (r : Reply) (v : World) : Type 0 where
   pub new : NodeState
   pub out : List Sent
@@ -140,17 +139,17 @@ abbrev pub reply_or_refusal : Result Reply Refusal → Reply
 reply_or_refusal (Ok r) = r
 reply_or_refusal (Err e) = Reply.refused e
 
--- A call that its client's cache answers alone.
+-- A call that only its client's cache answers.
 pub record CacheStep (w : World) (answer : Result Reply Refusal) (said : Option Said) (r : Reply) (v : World) : Type 0 where
   pub replied : r ≡ reply_or_refusal answer
   pub left : v ≡ record { scripts = unless_refused (is_refusal r) w.scripts said; nodes = w.nodes; sent = w.sent }
 
--- what is done is replied so, and leads to this world
+-- the effect has this reply, and leads to this world
 abbrev pub Does : Jobs → World → Doing → Reply → World → Type 0
 Does jobs w (Doing.at_node node a) r v = ActStep jobs w node a r v
 Does jobs w (Doing.by_cache answer said) r v = CacheStep w answer said r v
 
--- One step of the world: the event is replied so, and leads to this world.
+-- One step of the world: the event has this reply, and leads to this world.
 abbrev pub Step : Jobs → World → Event → Reply → World → Type 0
 Step jobs w e r v = Does jobs w (doing jobs w e) r v
 
@@ -164,9 +163,9 @@ unfoldable pub Run : Jobs → World → List Happened → World → Type 0
 Run jobs w [] v = v ≡ w
 Run jobs w (x ∷ xs) v = (mid : World) × Step jobs w x.event x.reply mid × Run jobs mid xs v
 
--- ---- scripts, as the events tell them
+-- ---- scripts, by the events
 
--- what an event adds to a script, unless it is refused
+-- the calls that an event adds to a script, unless it is refused
 abbrev pub said_in : Jobs → Event → Option Said
 said_in jobs (Event.put p scope key value) = said_by p (Call.put scope key value ∷ [])
 said_in jobs (Event.commit node p) = said_by p (Call.commit ∷ [])

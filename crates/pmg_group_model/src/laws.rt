@@ -4,14 +4,14 @@ ghost use Rattle.pmg_group_model.specs.Laws.{AlwaysGood, ScriptsAreTold, OneHead
 ghost use Rattle.pmg_group_model.specs.Lawful.{Always, AnswersNeverFall, FenceTheorem, RefreshesAnew, ReleasesAlike, ReleasesWhole};
 ghost use Rattle.pmg_group_model.specs.Turns.{NamesWereEntered, AlwaysInTurn};
 
-/// What holds over every interleaving of the steps of a group, whatever frames are delivered, when, how often, or never. What
-/// each node holds fits the scripts of all processes, which are those that the events tell. Of one fence each node sends one
-/// header, and each fence whose name a node has was entered. No process runs past a fence that is not over. Of the fences of one
-/// signature a node keeps two at most, and those in which its processes wait are among them. Nobody is released
-/// from a fence before each participant has entered or is gone, and all who are released are told the same. Who was released
-/// from a fence that collects data is answered what each participant had sealed before it entered, or something later; and what
-/// one process is answered about another never falls back. A get that asks the home of its target anew, and waits for the reply, is
-/// answered what the target had sealed when the get began, or something later (PMIx Standard 5.0, PMIX_GET_REFRESH_CACHE).
+/// States the laws over every interleaving of the steps of a group, for any choice of delivered frames, their order, repeats and losses.
+/// The state of each node fits the scripts of all processes, and these are the scripts that the events produce. Each node sends one header
+/// for a fence, and each fence in a node's table was entered. No process runs past a fence that is not over. A node keeps at most two
+/// fences of a signature, and keeps the fences in which its processes wait. No process is released from a fence before each participant has
+/// entered or is gone, and all processes that are released from one fence learn equal gone participants. After the release from a fence
+/// that collects data, gets are answered with each participant's state at its entry, or a later one. The answers of one process about
+/// another never go back. A get that asks the home of its target anew, and waits for the reply, is answered with the target's sealed state
+/// at the beginning of the get, or a later one (PMIx Standard 5.0, PMIX_GET_REFRESH_CACHE).
 pub fn every_interleaving()
     ensures always_good { AlwaysGood }
     ensures scripts_are_told { ScriptsAreTold }
@@ -27,15 +27,15 @@ pub fn every_interleaving()
     ensures refresh_theorem { Always RefreshesAnew }
 {}
 
-/// Five runs of small groups, step by step. The first four are of two nodes with a process each. In the first, one process ends; the
-/// other enters a fence of both that collects data, waits for the other node's header, then for the commit that the header names, and
-/// is released, told that the one is gone; and then a get of a key of that one is answered. In the second, the one process puts a value
-/// and commits it, and both enter; the other one waits in the same way, is released, told that nobody is gone, and finds the value. So
-/// the laws of every run speak of releases and of gets that do happen (PMIx Standard 5.0, PMIx_Fence, PMIX_COLLECT_DATA). In the third a
-/// get waits, the home of its key's process is asked, and the answer is taken: a get that waited counts as answered then. In the fourth
-/// a get asks anew, the home replies, and the answer is taken: the refresh theorem speaks of such a get. The fifth is of one node with
-/// two processes. Both enter and leave two fences of one signature, then one of them waits in the third, and the node has forgotten the
-/// first: the node keeps a fence in which a process waits, though it forgets others.
+/// Gives five runs of small groups, step by step. They witness that the laws of every run are not vacuous (PMIx Standard 5.0, PMIx_Fence,
+/// PMIX_COLLECT_DATA). The first four are of two nodes with a process each. In the first, one process ends. The other enters a fence of
+/// both that collects data, and waits for the other node's header, then for the commit that the header names. It is released with the first
+/// process gone, and its get of a key of the first process is answered. In the second, the one process puts a value and commits it, and
+/// both enter. The other process waits in the same way, is released with no process gone, and finds the value. In the third a get waits,
+/// the node asks the home of its key's process, and the process takes the answer: a get that waited counts as answered then. In the fourth
+/// a get asks anew, the home replies, and the process takes the answer: the refresh theorem is about such a get. The fifth is of one node
+/// with two processes. Both enter and leave two fences of one signature. Then one of them waits in the third fence, and the node has
+/// forgotten the first: the node keeps a fence in which a process waits, though it forgets others.
 pub fn worked_runs()
     ensures run_of_two { RunOfTwo }
     ensures run_of_meeting { RunOfMeeting }

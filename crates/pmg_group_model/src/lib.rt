@@ -1,5 +1,5 @@
-//! The nodes of a group and their processes together, as definitions: what holds over every interleaving of their steps.
-//! `pmg_world` is such a group in code.
+//! The nodes of a group and their processes together, as definitions, with the laws over every interleaving of their steps. `pmg_world` is
+//! such a group in code.
 #![tactic(auto)]
 
 mod laws;

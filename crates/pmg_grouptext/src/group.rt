@@ -1,4 +1,4 @@
-//! A group is read from its text.
+//! The reader of a group's text.
 ghost use Rattle.std.specs.Prelude.{◌≡◌, ◌≢◌, ◌<◌, length, Some, Ok, Err, IfErr, IfSome, OnOk};
 ghost use Rattle.std.specs.List.{position};
 ghost use Rattle.pmg_value.specs.declared.refusal.Refusal.TheVariants as refusals;
@@ -14,9 +14,9 @@ use std::alloc::Global;
 
 const LF: u8 = b'\n';
 
-/// Reads a group from its text: a line `nodes NAME ..`, then for each namespace a line `space NS NODE ..`, which has the home of each
-/// rank; an empty line says nothing. Refused as BadParam where the text has another line or names no nodes, as `Registry::new` and
-/// `Registry::register` are, and as NoMemory. The first line that is refused counts.
+/// Reads a group from its text. A line `nodes NAME ..` comes first; then each namespace has a line `space NS NODE ..` with the home of each
+/// rank; an empty line has no effect. The first refused line counts. Errors: `BadParam` if the text has another line or names no nodes; the
+/// errors of `Registry::new` and `Registry::register`; `NoMemory`.
 pub fn read_group(alloc: Global, text: &[u8]) -> Result<Registry, Refusal>
     ensures { ReadsGroup (λ r. r) result (group_in text.now) }
 {
@@ -33,7 +33,7 @@ pub fn read_group(alloc: Global, text: &[u8]) -> Result<Registry, Refusal>
     }
 }
 
-/// Where the first LF stands.
+/// Returns the position of the first LF.
 fn first_end(text: &[u8]) -> Option<usize>
     ensures value { result ≡ position is_end text.now }
     ensures bound { IfSome result (λ at. at < length text.now) }
@@ -41,7 +41,7 @@ fn first_end(text: &[u8]) -> Option<usize>
     text.iter().position(|byte| *byte == LF)
 }
 
-/// The first line, with the LF that ends it, and what stands after it.
+/// Returns the first line, with the LF that ends it, and the text after it.
 fn cut_line(text: &[u8]) -> (&[u8], &[u8])
     requires { 0 < length text.now }
     ensures { IsCutFrom text.now result.0.now result.1.now }
@@ -52,7 +52,7 @@ fn cut_line(text: &[u8]) -> (&[u8], &[u8])
     }
 }
 
-/// The nodes are named, where they were not yet.
+/// Names the nodes, if they have no names yet.
 #[tactic(auto, unfolding(crate::specs::Groups::after_line))]
 fn name_nodes(alloc: Global, group: &mut Option<Registry>, names: &[&[u8]]) -> Result<(), Refusal>
     ensures ok { OnOk result (after_line group.old (Some (ModelLine.nodes (texts names.now))) ≡ Ok group.new) }
@@ -65,7 +65,7 @@ fn name_nodes(alloc: Global, group: &mut Option<Registry>, names: &[&[u8]]) -> R
     Ok(())
 }
 
-/// A namespace is registered, where the nodes were named.
+/// Registers a namespace, if the nodes have names.
 #[tactic(auto, unfolding(crate::specs::Groups::after_line))]
 fn add_space(
     alloc: Global,
@@ -82,7 +82,7 @@ fn add_space(
     }
 }
 
-/// What the line says is done.
+/// Applies the line to the group.
 #[tactic(auto, unfolding(crate::specs::Groups::after_line))]
 fn take_line(alloc: Global, group: &mut Option<Registry>, line: &[u8]) -> Result<(), Refusal>
     ensures ok { OnOk result (after_line group.old (said line.now) ≡ Ok group.new) }

@@ -1,4 +1,4 @@
-//! A group as text: the names of its nodes and its namespaces, as the first lines of a script say them.
+//! A group as text: the names of its nodes and its namespaces, in the form of the first lines of a script.
 #![tactic(auto)]
 
 mod group;

@@ -8,7 +8,7 @@ use pmg_jobinfo::Registry;
 use pmg_value::{NodeId, Refusal};
 use std::alloc::Global;
 
-/// The node of that index, if the group has one.
+/// Returns the node of that index, if the group has one.
 pub fn node_id(registry: &Registry, index: u64) -> Option<NodeId>
     ensures { result ≡ (if is_node registry.now index then Some index else None) }
 {
@@ -18,7 +18,7 @@ pub fn node_id(registry: &Registry, index: u64) -> Option<NodeId>
     Some(NodeId::from_checked(index as u32))
 }
 
-/// The nodes of these indexes. Refused as BadParam where the group has no such node, and as NoMemory.
+/// Returns the nodes of these indexes. Errors: `BadParam` if the group has no such node; `NoMemory`.
 pub(crate) fn nodes_of(
     alloc: Global,
     registry: &Registry,

@@ -1,4 +1,4 @@
-//! A namespace is registered as a text names it.
+//! The registration of a namespace that a text names.
 ghost use Rattle.std.specs.Prelude.{◌≡◌, ◌≢◌, Ok, Err, IfErr, OnOk, OnErr};
 ghost use Rattle.pmg_value.specs.declared.refusal.Refusal.TheVariants as refusals;
 ghost use Rattle.pmg_grouptext.specs.Groups.{with_named_space};
@@ -8,8 +8,8 @@ use pmg_jobinfo::Registry;
 use pmg_value::{Nspace, Refusal, is_nspace_name};
 use std::alloc::Global;
 
-/// Registers the namespace of these bytes, with the homes of its ranks (PMIx Standard 5.0, PMIx_server_register_nspace). Refused as
-/// BadParam where the bytes name no namespace, and as `Registry::register` is.
+/// Registers the namespace of these bytes, with the homes of its ranks (PMIx Standard 5.0, PMIx_server_register_nspace). Errors: `BadParam`
+/// if the bytes name no namespace; the errors of `Registry::register`.
 pub fn register_space(
     alloc: Global,
     registry: &mut Registry,

@@ -1,4 +1,4 @@
--- What is asked of a node, and what it replies, as code names it.
+-- The acts of a node and its replies, as the code names them.
 use Rattle.std.specs.Prelude.{◌≡◌, Some, Result, Ok, Err}
 use Rattle.pmg_value.specs.Spelling.{spelling}
 use Rattle.pmg_value.specs.declared.refusal.Refusal.{Refusal}
@@ -17,7 +17,7 @@ use Rattle.pmg_node.specs.declared.act.Act.TheVariants as asked
 use Rattle.pmg_node.specs.declared.act.Reply.{Reply as GivenReply}
 use Rattle.pmg_node.specs.declared.act.Reply.TheVariants as replies
 
--- a request, as code names it
+-- a request, as the code names it
 abbrev pub request_of : AskedRequest → Request
 request_of (requests.Enter p list collect) = Request.enter p list.items collect
 request_of (requests.Leave p) = Request.leave p
@@ -28,13 +28,13 @@ request_of (requests.Define name list) = Request.define name list.items
 request_of (requests.Delete name) = Request.delete name
 request_of requests.Nudge = Request.nudge
 
--- what is asked
+-- an act, as the code names it
 abbrev pub act_of : AskedAct → Act
 act_of (asked.Request r) = Act.request (request_of r)
 act_of (asked.Commit p batch) = Act.commit p batch
 act_of (asked.Deliver frame) = Act.deliver frame
 
--- what is replied, where nothing is refused
+-- a reply, as the code names it
 abbrev pub reply_as : GivenReply → Reply
 reply_as replies.Done = Reply.done
 reply_as (replies.Committed number) = Reply.committed number
@@ -49,37 +49,37 @@ reply_as replies.Ignored = Reply.ignored
 reply_as (replies.Ended number) = Reply.ended number
 reply_as (replies.Defined number) = Reply.defined number
 
--- what comes of an act, by its reply
+-- the reply in the result of an act
 abbrev pub acted_reply : Acted → Reply
 acted_reply acted = reply_as acted.reply
 
--- what an act joined, as code names it
+-- the joined pieces of an act, as the code names them
 abbrev pub joins_in : Joined → Joins
 joins_in joined = record { near = joined.near; far = joined.far }
 
--- what a commit joined
+-- the joined pieces of a commit
 abbrev pub commit_joins : Committed → Joins
 commit_joins c = record { near = Some c.near; far = Some c.far }
 
--- the same answer, as what comes of an act
+-- the two answers agree in their reply, and the result of the act has these joined pieces
 abbrev pub SameAnswer : {X : Type 0} → (X → Reply) → (X → Joins) → Result X Refusal → Result Acted Refusal → Type 0
 SameAnswer view joins (Ok x) (Ok acted) = (view x ≡ acted_reply acted) × (joins_in acted.joined ≡ joins x)
 SameAnswer view joins (Err e) (Err f) = e ≡ f
 SameAnswer view joins (Ok x) (Err f) = ⊥
 SameAnswer view joins (Err e) (Ok acted) = ⊥
 
--- the same answer, as a reply
+-- the two answers agree in their reply
 abbrev pub SameReply : {X : Type 0} → (X → Reply) → Result X Refusal → Result GivenReply Refusal → Type 0
 SameReply view (Ok x) (Ok reply) = view x ≡ reply_as reply
 SameReply view (Err e) (Err f) = e ≡ f
 SameReply view (Ok x) (Err f) = ⊥
 SameReply view (Err e) (Ok reply) = ⊥
 
--- where nothing is joined
+-- an answer that joins nothing
 abbrev pub joins_none : {X : Type 0} → X → Joins
 joins_none x = no_joins
 
--- what a frame joins, where it is taken
+-- the joined pieces of a frame, if it is taken
 abbrev pub delivery_joins : Delivery → Joins → Joins
 delivery_joins deliveries.Taken joins = joins
 delivery_joins deliveries.Ignored joins = no_joins

@@ -1,4 +1,4 @@
--- A node, by what its parts hold.
+-- A node, by the content of its parts.
 use Rattle.std.specs.Prelude.{◌≡◌, ℕ, [], false, Some}
 use Rattle.std.specs.FinMap as finite
 use Rattle.pmg_value.specs.Names.{is_reserved}
@@ -13,7 +13,7 @@ use Rattle.pmg_node_parts.specs.Owns.{LocalCommits}
 use Rattle.pmg_node_model.specs.Holdings.{Get, CallState}
 use Rattle.pmg_node.specs.Servers.{Server, IsNode}
 
--- the node that these parts make
+-- the node with these parts
 abbrev pub server_of : Known → ℕ → Board → LocalCommits → Calls → Requests → Levels → Server
 server_of table id board own calls held marks = record {
   jobs = table.jobs;
@@ -22,12 +22,12 @@ server_of table id board own calls held marks = record {
   marks = marks;
 }
 
--- each get that waits for the reply to a request is of a key that is not reserved, and the one that the request was sent for
+-- each get that waits for the reply to a request is of a key that is not reserved, and is the get for which the node sent the request
 abbrev pub AreOpen : Calls → Refreshes → Type 0
 AreOpen calls anew = (p : Proc) (get : Get) (number : ℕ) → finite.get calls p ≡ Some (CallState.refreshing get number)
     → (is_reserved get.key ≡ false) × (asker_at anew number get.target ≡ Some p)
 
--- the table is the node's, and no header of its own waits there; and replies find the gets that wait for them
+-- the table belongs to the node and has no waiting headers, and replies find the gets that wait for them
 pub record IsContent (table : Known) (id : ℕ) (anew : Refreshes) (s : Server) : Type 0 where
   pub same : table.node ≡ id
   pub told : table.waiting ≡ []

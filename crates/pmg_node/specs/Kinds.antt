@@ -11,7 +11,7 @@ abbrev pub IsEntered : Reply → Type 0
 IsEntered (Reply.entered instance) = Unit {0}
 IsEntered _ = ⊥
 
--- a reply to the leave of a fence: the process is in no such call, waits still, or is released
+-- a reply to the leave of a fence: the process is not in such a call, still waits, or is released
 abbrev pub IsRelease : Reply → Type 0
 IsRelease Reply.idle = Unit {0}
 IsRelease Reply.waiting = Unit {0}
@@ -24,7 +24,7 @@ IsAsked (Reply.found value) = Unit {0}
 IsAsked Reply.parked = Unit {0}
 IsAsked _ = ⊥
 
--- a reply to the taking of an answer: the process is in no such call, waits still, or has the value
+-- a reply to the taking of an answer: the process is not in such a call, still waits, or has the value
 abbrev pub IsTaking : Reply → Type 0
 IsTaking Reply.idle = Unit {0}
 IsTaking Reply.waiting = Unit {0}
@@ -41,13 +41,13 @@ abbrev pub IsDefined : Reply → Type 0
 IsDefined (Reply.defined number) = Unit {0}
 IsDefined _ = ⊥
 
--- a reply to the delivery of a frame: that it is taken or ignored
+-- a reply to the delivery of a frame: taken or ignored
 abbrev pub IsDelivery : Reply → Type 0
 IsDelivery Reply.taken = Unit {0}
 IsDelivery Reply.ignored = Unit {0}
 IsDelivery _ = ⊥
 
--- the reply that it is done, as to a nudge or a put
+-- the reply that the act is done, as to a nudge or a put
 abbrev pub IsDone : Reply → Type 0
 IsDone Reply.done = Unit {0}
 IsDone _ = ⊥

@@ -1,4 +1,4 @@
--- What calls of a node answer, as replies.
+-- The answers of a node's calls, as replies.
 use Rattle.std.specs.Prelude.{List, Option, Some, None}
 use Rattle.pmg_value.specs.Signatures.{FenceName}
 use Rattle.pmg_value.specs.Spelling.{spelling}
@@ -19,13 +19,13 @@ use Rattle.pmg_node.specs.declared.parking.Asked.TheVariants as askings
 use Rattle.pmg_node.specs.declared.status.Status.{Status as ToldStatus}
 use Rattle.pmg_node.specs.declared.status.Status.TheVariants as statuses
 
--- what a process that leaves a fence is told
+-- the answer to a process that leaves a fence
 abbrev pub release_reply : Release → Reply
 release_reply releases.Idle = Reply.idle
 release_reply releases.Waiting = Reply.waiting
 release_reply (releases.Released instance gone) = Reply.released instance gone.items
 
--- what it is told that is not released
+-- the answer to a process that is not released
 abbrev pub stays_reply : Option CallState → Option Reply
 stays_reply (Some (CallState.released f gone)) = None
 stays_reply (Some (CallState.in_fence f)) = Some Reply.waiting
@@ -35,23 +35,23 @@ stays_reply (Some (CallState.refreshing get number)) = Some Reply.idle
 stays_reply (Some (CallState.refreshed get outcome)) = Some Reply.idle
 stays_reply None = Some Reply.idle
 
--- what it is told that is released from this fence, where it is
+-- the answer to a process that is released from this fence, if there is one
 abbrev pub freed_reply : Option (FenceName × List Proc) → Reply
 freed_reply (Some (f, gone)) = Reply.released f.instance gone
 freed_reply None = Reply.idle
 
--- what it is told once its call is over
+-- the answer to the process after its call is over
 abbrev pub released_reply : Option CallState → Reply
 released_reply (Some s) = freed_reply (released_by_fence s)
 released_reply None = Reply.idle
 
--- what a process that takes an answer is told
+-- the answer to a process that takes an answer
 abbrev pub taking_reply : Taking → Reply
 taking_reply takings.Idle = Reply.idle
 taking_reply takings.Waiting = Reply.waiting
 taking_reply (takings.Found value) = Reply.found (spelling value)
 
--- what it is told whose get is not answered
+-- the answer to a process whose get is not answered
 abbrev pub pending_reply : Option CallState → Option Reply
 pending_reply (Some (CallState.answered get outcome)) = None
 pending_reply (Some (CallState.refreshed get outcome)) = None
@@ -61,27 +61,27 @@ pending_reply (Some (CallState.in_fence f)) = Some Reply.idle
 pending_reply (Some (CallState.released f gone)) = Some Reply.idle
 pending_reply None = Some Reply.idle
 
--- what it is told whose get is answered so, where it is
+-- the answer to a process whose get has this outcome, if there is one
 abbrev pub got_reply : Option Outcome → Reply
 got_reply (Some outcome) = reply_of outcome
 got_reply None = Reply.idle
 
--- what it is told once its call is over
+-- the answer to the process after its call is over
 abbrev pub answered_reply : Option CallState → Reply
 answered_reply (Some s) = got_reply (answered_in s)
 answered_reply None = Reply.idle
 
--- what becomes of a frame
+-- the outcome of a delivered frame
 abbrev pub delivery_reply : Delivery → Reply
 delivery_reply deliveries.Taken = Reply.taken
 delivery_reply deliveries.Ignored = Reply.ignored
 
--- what a process that asks for a key is told
+-- the answer to a process that asks for a key
 abbrev pub asked_reply : Asked → Reply
 asked_reply (askings.Found value) = Reply.found (spelling value)
 asked_reply askings.Parked = Reply.parked
 
--- how a process stands
+-- the status of a process
 abbrev pub status_in : ToldStatus → Status
 status_in statuses.Stranger = Status.stranger
 status_in statuses.Idle = Status.idle
@@ -91,14 +91,14 @@ status_in statuses.Parked = Status.parked
 status_in statuses.Answered = Status.answered
 status_in statuses.Ended = Status.ended
 
--- what comes of a commit
+-- the result of a commit
 abbrev pub committed_reply : Committed → Reply
 committed_reply c = Reply.committed c.level
 
--- what a process that ends is told
+-- the answer to a process that ends
 abbrev pub ended_reply : Committed → Reply
 ended_reply c = Reply.ended c.level
 
--- what comes of a change of the sets
+-- the result of a change of the sets
 abbrev pub defined_reply : Committed → Reply
 defined_reply c = Reply.defined c.level

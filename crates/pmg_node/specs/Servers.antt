@@ -1,4 +1,4 @@
--- A node, and its acts with what they send.
+-- A node, and its acts with the frames that they send.
 use Rattle.std.specs.Prelude.{◌≡◌, ◌⊎◌, ◌≤◌, ℕ, List, is_some, true, Result, Ok, Err, refl}
 use Rattle.std.specs.Coded.{Coded, code_by, coded×, coded_ℕ}
 use Rattle.std.specs.FinMap as finite
@@ -20,7 +20,7 @@ use Rattle.pmg_node_model.specs.Holdings.{NodeState}
 use Rattle.pmg_node_model.specs.Kept.{IsOwn, IsServer}
 use Rattle.pmg_node_model.specs.declared.sent.Sent.{Sent}
 
--- a node: its group's jobs, its index, what it holds, and its marks
+-- a node: its group's jobs, its index, its state, and its marks
 pub record Server : Type 0 where
   pub jobs : Jobs
   pub id : ℕ
@@ -33,15 +33,15 @@ coded_server =
     code_by (Jobs × (ℕ × (NodeState × Levels))) (coded× coded_jobs (coded× coded_ℕ (coded× coded_holding coded_levels))) (λ s. (s.jobs, (s.id, (s.holding, s.marks))))
     (λ p. record { jobs = p.0; id = p.1.0; holding = p.1.1.0; marks = p.1.1.1 }) (λ _. refl)
 
--- what a node replies to an act
+-- the node's reply to an act
 abbrev pub reply_to : Server → Act → Reply
 reply_to s a = (acts s.jobs s.id s.holding a).reply
 
--- what it sends by the act
+-- the frames that the node sends by the act
 abbrev pub sent_by : Server → Act → List Sent
 sent_by s a = (chosen s.jobs s.id s.holding s.marks a).frames
 
--- what it is after the act
+-- the node after the act
 abbrev pub after : Server → Act → Server
 after s a = record { jobs = s.jobs; id = s.id; holding = (acts s.jobs s.id s.holding a).left; marks = (chosen s.jobs s.id s.holding s.marks a).marks }
 
@@ -50,45 +50,45 @@ abbrev pub reply_in : {X : Type 0} → (X → Reply) → Result X Refusal → Re
 reply_in view (Ok x) = view x
 reply_in view (Err e) = Reply.refused e
 
--- no refusal is due
+-- the due reply is not a refusal
 abbrev pub IsAccepted : Reply → Type 0
 IsAccepted (Reply.refused e) = ⊥
 IsAccepted _ = Unit {0}
 
--- a refusal is the one that is due; NoMemory is told only where none is
+-- a refusal is the due one; `NoMemory` comes only if no other refusal is due
 abbrev pub Refuses : Refusal → Reply → Type 0
 Refuses refusals.NoMemory due = IsAccepted due
 Refuses e due = due ≡ Reply.refused e
 
--- the answer, seen as a reply, is the one that is due, or an allocation failed that it takes
+-- the answer, as a reply, is the due one, or an allocation of the call failed
 abbrev pub Replies : {X : Type 0} → (X → Reply) → Result X Refusal → Reply → Type 0
 Replies view (Ok x) due = due ≡ view x
 Replies view (Err e) due = Refuses e due
 
--- the process entered fences of these participants, who are not too many, as often as it may
+-- the process entered fences of these participants, within their limit, as often as it may
 abbrev pub IsSpent : Server → Act → Type 0
 IsSpent s (Act.request (Request.enter p list collect)) =
     let g = signature_of s.jobs p list collect in (set.len g.participants ≤ MAX_PARTICIPANTS) × (MAX_INSTANCE ≤ count_of s.holding.table g p)
 IsSpent s _ = ⊥
 
--- A refusal is the one that is due. NoMemory is told only where none is, or where an entry is one too many: how often the process
--- entered is known only by the participants that its list stands for.
+-- A refusal is the due one. `NoMemory` comes only if no other refusal is due, or if an entry is one too many: the count of entries needs
+-- the participants that the process's list means.
 abbrev pub RefusesAct : Server → Act → Refusal → Type 0
 RefusesAct s a refusals.NoMemory = IsAccepted (reply_to s a) ⊎ ((reply_to s a ≡ Reply.refused refusals.TooMany) × IsSpent s a)
 RefusesAct s a e = reply_to s a ≡ Reply.refused e
 
--- the answer of any act, seen as a reply, is the one that is due, or an allocation failed that it takes
+-- the answer of any act, as a reply, is the due one, or an allocation of the act failed
 abbrev pub RepliesAct : {X : Type 0} → (X → Reply) → Result X Refusal → Server → Act → Type 0
 RepliesAct view (Ok x) s a = reply_to s a ≡ view x
 RepliesAct view (Err e) s a = RefusesAct s a e
 
--- no allocation failed that it takes
+-- no allocation of the call failed
 abbrev pub IsAnswered : {X : Type 0} → Result X Refusal → Type 0
 IsAnswered (Ok x) = Unit {0}
 IsAnswered (Err refusals.NoMemory) = ⊥
 IsAnswered (Err e) = Unit {0}
 
--- each own process has its place among those that seal
+-- each own process has a sealer
 abbrev pub HasSealers : Jobs → ℕ → NodeState → Type 0
 HasSealers jobs id h = (p : Proc) → IsOwn jobs id p → is_some (finite.get h.sealers p) ≡ true
 
@@ -96,7 +96,7 @@ HasSealers jobs id h = (p : Proc) → IsOwn jobs id p → is_some (finite.get h.
 abbrev pub HasMarks : Jobs → ℕ → Levels → Type 0
 HasMarks jobs id marks = (p : Proc) (node : ℕ) → In p (senders jobs id) → is_peer jobs id node ≡ true → is_some (mark_at marks p node) ≡ true
 
--- what a node keeps
+-- the invariant of a node
 pub record IsNode (s : Server) : Type 0 where
   pub jobs : AreJobs s.jobs
   pub node : is_node s.jobs s.id ≡ true

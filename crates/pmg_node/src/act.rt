@@ -1,4 +1,4 @@
-//! What is asked of a node, and what it replies, as one call takes and gives it.
+//! The acts of a node and its replies, as one call takes and gives them.
 ghost use Rattle.std.specs.Prelude.{◌≡◌, IfOk, IfSome, IsNone};
 ghost use Rattle.pmg_node.specs.Acting.{act_of, joins_in, reply_as, request_of};
 ghost use Rattle.pmg_node.specs.Joining.{no_joins};
@@ -15,12 +15,12 @@ use pmg_scope::Batch;
 use pmg_value::{Key, Proc, Value, copy_all};
 use std::alloc::AllocError;
 
-/// What a process at home at a node asks of it, or the one who runs the node (PMIx Standard 5.0, PMIx_Fence, PMIx_Get,
-/// PMIx_Finalize, process sets).
+/// A request to a node, by a process at home there or by the operator of the node (PMIx Standard 5.0, PMIx_Fence, PMIx_Get, PMIx_Finalize,
+/// process sets).
 pub enum Request {
-    /// The process enters its next fence of these participants; whether it collects data.
+    /// The process enters its next fence of these participants; the flag says whether the fence collects data.
     Enter(Proc, Vec<Proc>, bool),
-    /// The process leaves the fence that it is released from.
+    /// The process leaves the fence that released it.
     Leave(Proc),
     /// The process asks, in that mode, for a key of the target.
     Ask(Mode, Proc, Proc, Key),
@@ -28,11 +28,11 @@ pub enum Request {
     Take(Proc),
     /// The process ends.
     Terminate(Proc),
-    /// A set of these processes is defined.
+    /// The operator defines a set of these processes.
     Define(Key, Vec<Proc>),
-    /// The set is deleted.
+    /// The operator deletes the set.
     Delete(Key),
-    /// Other nodes are asked again for what is missing.
+    /// The node asks other nodes again for missing headers and commits.
     Nudge,
 }
 
@@ -53,7 +53,7 @@ impl Drop for Request {
 }
 
 impl Request {
-    /// A copy, the same request.
+    /// Returns a copy, an equal request.
     pub fn copy(&self) -> Result<Request, AllocError>
         ensures { IfOk result (λ r. request_of r ≡ request_of self.now) }
     {
@@ -74,13 +74,13 @@ impl Request {
     }
 }
 
-/// What is asked of a node.
+/// An act of a node.
 pub enum Act {
     /// A request.
     Request(Request),
     /// The process commits these puts.
     Commit(Proc, Batch),
-    /// A frame of another node is delivered.
+    /// The node receives a frame of another node.
     Deliver(Frame),
 }
 
@@ -95,7 +95,7 @@ impl Drop for Act {
 }
 
 impl Act {
-    /// Returns a copy, the same act.
+    /// Returns a copy, an equal act.
     pub fn copy(&self) -> Result<Act, AllocError>
         ensures { IfOk result (λ copy. act_of copy ≡ act_of self.now) }
     {
@@ -107,19 +107,19 @@ impl Act {
     }
 }
 
-/// What a node replies to an act that it does not refuse.
+/// The reply of a node to an act that it does not refuse.
 pub enum Reply {
-    /// It is done.
+    /// The act is done.
     Done,
     /// The commit's number.
     Committed(u64),
     /// The instance of the fence that was entered.
     Entered(u64),
-    /// The process is in no such call.
+    /// The process is not in such a call.
     Idle,
-    /// The process waits still.
+    /// The process still waits.
     Waiting,
-    /// The process is released from the instance of its fence, from which these participants were gone.
+    /// The process is released from the instance of its fence; these participants were gone.
     Released(u64, Vec<Proc>),
     /// The value.
     Found(Value),
@@ -155,7 +155,7 @@ impl Drop for Reply {
 }
 
 impl Reply {
-    /// Returns a copy, the same reply.
+    /// Returns a copy, an equal reply.
     pub fn copy(&self) -> Result<Reply, AllocError>
         ensures { IfOk result (λ copy. reply_as copy ≡ reply_as self.now) }
     {
@@ -175,7 +175,7 @@ impl Reply {
         })
     }
 
-    /// What a process that leaves a fence is told, if it is told that.
+    /// Returns the reply to a process that leaves a fence, if this is such a reply.
     pub fn into_release(self) -> Option<Release>
         ensures some { IfSome result (λ x. release_reply x ≡ reply_as self) }
         ensures none { IsNone result → IsRelease (reply_as self) → ⊥ }
@@ -188,7 +188,7 @@ impl Reply {
         }
     }
 
-    /// What a process that asks for a key is told, if it is told that.
+    /// Returns the reply to a process that asks for a key, if this is such a reply.
     pub fn into_asked(self) -> Option<Asked>
         ensures some { IfSome result (λ x. asked_reply x ≡ reply_as self) }
         ensures none { IsNone result → IsAsked (reply_as self) → ⊥ }
@@ -200,7 +200,7 @@ impl Reply {
         }
     }
 
-    /// What a process that takes an answer is told, if it is told that.
+    /// Returns the reply to a process that takes an answer, if this is such a reply.
     pub fn into_taking(self) -> Option<Taking>
         ensures some { IfSome result (λ x. taking_reply x ≡ reply_as self) }
         ensures none { IsNone result → IsTaking (reply_as self) → ⊥ }
@@ -214,7 +214,7 @@ impl Reply {
     }
 }
 
-/// What an act joined into the stores of its node.
+/// The pieces that an act joined into the stores of its node.
 pub struct Joined {
     /// For reads from the node itself.
     pub near: Option<Piece>,
@@ -229,7 +229,7 @@ impl Drop for Joined {
 }
 
 impl Joined {
-    /// Returns what an act joins that joins nothing.
+    /// Returns the value of an act that joins nothing.
     pub fn nothing() -> Joined
         ensures { joins_in result ≡ no_joins }
     {
@@ -240,11 +240,11 @@ impl Joined {
     }
 }
 
-/// What comes of an act that is not refused.
+/// The result of an act that is not refused.
 #[derive(Drop)]
 pub struct Acted {
-    /// What is replied.
+    /// The reply.
     pub reply: Reply,
-    /// What was joined.
+    /// The joined pieces.
     pub joined: Joined,
 }

@@ -24,7 +24,7 @@ use pmg_value::{Key, Proc, Refusal};
 use std::alloc::AllocError;
 use std::collections::VecDeque;
 
-/// The reply of an act that joins nothing.
+/// Returns the reply of an act that joins nothing.
 fn reply_alone(reply: Reply) -> Acted
     ensures reply { acted_reply result ≡ reply_as reply }
     ensures joined { joins_in result.joined ≡ no_joins }
@@ -35,7 +35,7 @@ fn reply_alone(reply: Reply) -> Acted
     }
 }
 
-/// The reply of an act that joins what a process sealed.
+/// Returns the reply of an act that joins a process's sealed pieces.
 fn reply_with_pieces(reply: Reply, near: Piece, far: Piece) -> Acted
     ensures reply { acted_reply result ≡ reply_as reply }
     ensures near { result.joined.near ≡ Some near }
@@ -50,14 +50,14 @@ fn reply_with_pieces(reply: Reply, near: Piece, far: Piece) -> Acted
     }
 }
 
-/// The instance that a process entered, as a reply.
+/// Returns the instance that a process entered, as a reply.
 fn as_entered(answer: Result<u64, Refusal>) -> Result<Acted, Refusal>
     ensures { SameAnswer ModelReply.entered joins_none answer result }
 {
     Ok(reply_alone(Reply::Entered(answer?)))
 }
 
-/// What a process that leaves a fence is told, as a reply.
+/// Returns the answer to a process that leaves a fence, as a reply.
 fn as_released(answer: Result<Release, Refusal>) -> Result<Acted, Refusal>
     ensures { SameAnswer release_reply joins_none answer result }
 {
@@ -68,7 +68,7 @@ fn as_released(answer: Result<Release, Refusal>) -> Result<Acted, Refusal>
     }))
 }
 
-/// What a process that asks for a key is told, as a reply.
+/// Returns the answer to a process that asks for a key, as a reply.
 fn reply_of_asked(answer: Result<Asked, Refusal>) -> Result<Reply, Refusal>
     ensures { SameReply asked_reply answer result }
 {
@@ -78,14 +78,14 @@ fn reply_of_asked(answer: Result<Asked, Refusal>) -> Result<Reply, Refusal>
     })
 }
 
-/// The same, with what is joined: nothing.
+/// Returns the answer to a process that asks for a key, as a reply that joins nothing.
 fn as_asked(answer: Result<Asked, Refusal>) -> Result<Acted, Refusal>
     ensures { SameAnswer asked_reply joins_none answer result }
 {
     Ok(reply_alone(reply_of_asked(answer)?))
 }
 
-/// What a process that takes an answer is told, as a reply.
+/// Returns the answer to a process that takes an answer, as a reply.
 fn as_taken(answer: Result<Taking, Refusal>) -> Result<Acted, Refusal>
     ensures { SameAnswer taking_reply joins_none answer result }
 {
@@ -96,7 +96,7 @@ fn as_taken(answer: Result<Taking, Refusal>) -> Result<Acted, Refusal>
     }))
 }
 
-/// The number of a commit, as a reply.
+/// Returns the number of a commit, as a reply.
 fn as_committed(answer: Result<Committed, Refusal>) -> Result<Acted, Refusal>
     ensures { SameAnswer committed_reply commit_joins answer result }
 {
@@ -104,7 +104,7 @@ fn as_committed(answer: Result<Committed, Refusal>) -> Result<Acted, Refusal>
     Ok(reply_with_pieces(Reply::Committed(commit.level), commit.near, commit.far))
 }
 
-/// The number of a process's end, as a reply.
+/// Returns the number of a process's end, as a reply.
 fn as_ended(answer: Result<Committed, Refusal>) -> Result<Acted, Refusal>
     ensures { SameAnswer ended_reply commit_joins answer result }
 {
@@ -112,7 +112,7 @@ fn as_ended(answer: Result<Committed, Refusal>) -> Result<Acted, Refusal>
     Ok(reply_with_pieces(Reply::Ended(end.level), end.near, end.far))
 }
 
-/// The number of a change of the process sets, as a reply.
+/// Returns the number of a change of the process sets, as a reply.
 fn as_defined(answer: Result<Committed, Refusal>) -> Result<Acted, Refusal>
     ensures { SameAnswer defined_reply commit_joins answer result }
 {
@@ -120,7 +120,7 @@ fn as_defined(answer: Result<Committed, Refusal>) -> Result<Acted, Refusal>
     Ok(reply_with_pieces(Reply::Defined(change.level), change.near, change.far))
 }
 
-/// What becomes of a frame, as a reply.
+/// Returns the outcome of a delivery, as a reply.
 fn reply_of_delivery(delivery: Delivery) -> Reply
     ensures { reply_as result ≡ delivery_reply delivery }
 {
@@ -130,7 +130,7 @@ fn reply_of_delivery(delivery: Delivery) -> Reply
     }
 }
 
-/// The same, with what is joined.
+/// Returns the outcome of a delivery, as a reply with the joined pieces.
 fn as_delivered(delivery: Delivery, joined: Joined) -> Acted
     ensures reply { acted_reply result ≡ delivery_reply delivery }
     ensures joined { joins_in result.joined ≡ delivery_joins delivery (joins_in joined) }
@@ -144,7 +144,7 @@ fn as_delivered(delivery: Delivery, joined: Joined) -> Acted
     }
 }
 
-/// What is joined once the frame is taken: its piece, if it is one, or what it replies, if that is something.
+/// Returns the pieces that a taken frame joins: the piece that it is, or the piece in a refresh reply, if any.
 pub(crate) fn joined_by(frame: &Frame) -> Result<Joined, AllocError>
     ensures { IfOk result (λ joined. joins_in joined ≡ frame_joins frame.now) }
 {
@@ -190,7 +190,7 @@ impl Server {
         }
     }
 
-    /// A frame of another node is taken or ignored, as `deliver` does it, with what it joins. Where an allocation fails nothing
+    /// Takes or ignores a frame of another node, as `deliver` does, and returns the joined pieces too. If an allocation fails, nothing
     /// changes.
     pub fn deliver_joined(
         &mut self,
@@ -210,8 +210,8 @@ impl Server {
         Ok(as_delivered(delivery, joined))
     }
 
-    /// Does what is asked, and puts the frames that go out after those of the list, which the caller lends. Each call of a node is
-    /// one instance of this one, and refused as it is.
+    /// Does the act, and appends the frames that go out to the caller's list. Each call of a node is an instance of this one, with equal
+    /// refusals.
     pub fn act_into(&mut self, act: &Act, out: &mut VecDeque<Sent>) -> Result<Acted, Refusal>
         ensures reply { RepliesAct acted_reply result self.old (act_of act.now) }
         ensures done { IsAnswered result → self.new ≡ after self.old (act_of act.now) }
@@ -228,7 +228,7 @@ impl Server {
     }
 
     /// Commits the process's batch, and returns the commit's number (PMIx Standard 5.0, PMIx_Commit). Errors: `BadParam`,
-    /// `UnknownNamespace`, `NotMine`, `Terminated`, `Busy`, `TooMany` and `NoMemory`, as `commit_joined` has them.
+    /// `UnknownNamespace`, `NotMine`, `Terminated`, `Busy`, `TooMany` and `NoMemory`, as in `commit_joined`.
     pub fn commit(
         &mut self,
         proc: &Proc,
@@ -247,7 +247,7 @@ impl Server {
         }
     }
 
-    /// Answers a request, with the reply alone. What is joined takes room, so this is a call of its own.
+    /// Answers a request, with only the reply. This is a separate call, because the joined pieces take room.
     #[inline(never)]
     fn serve_alone(&mut self, request: &Request, out: &mut VecDeque<Sent>) -> Result<Reply, Refusal>
         ensures reply { RepliesAct reply_as result self.old (ModelAct.request (request_of request.now)) }
@@ -262,7 +262,7 @@ impl Server {
         }
     }
 
-    /// Answers a process that asks for a key of the target, as `ask` does it, with what is replied to a request.
+    /// Answers a process that asks for a key of the target, as `ask` does, in the form of a reply to a request.
     pub fn get(
         &mut self,
         proc: &Proc,
@@ -281,7 +281,7 @@ impl Server {
         reply_of_asked(self.ask(proc, target, key, mode, out))
     }
 
-    /// Answers a request of a process at home at the node, or of the one who runs it.
+    /// Answers a request of a process at home at the node, or of the node's operator.
     pub fn request(&mut self, request: &Request, out: &mut VecDeque<Sent>) -> Result<Reply, Refusal>
         ensures reply { RepliesAct reply_as result self.old (ModelAct.request (request_of request.now)) }
         ensures done { IsAnswered result → self.new ≡ after self.old (ModelAct.request (request_of request.now)) }
@@ -295,7 +295,7 @@ impl Server {
         }
     }
 
-    /// Does what is asked, as `act_into` does it, with the reply alone. Errors: those of the call that makes the act, of `BadParam`,
+    /// Does the act, as `act_into` does, with only the reply. Errors: the errors of the call that makes the act, out of `BadParam`,
     /// `NotFound`, `OutsideScope`, `UnknownNamespace`, `NotMine`, `Busy`, `Terminated`, `NotAParticipant`, `TooMany`, `Exists` and
     /// `NoMemory`.
     pub fn act(&mut self, act: &Act, out: &mut VecDeque<Sent>) -> Result<Reply, Refusal>

@@ -1,4 +1,4 @@
-//! What a node does with each frame of another node.
+//! The steps of a node for each kind of frame of another node.
 ghost use Rattle.std.specs.Prelude.{◌≡◌, ◌++◌, IfOk, OnOk, OnErr};
 ghost use Rattle.pmg_frame.specs.declared.frame.Frame.TheVariants as frames;
 ghost use Rattle.pmg_node_model.specs.Acts.{Act};
@@ -18,8 +18,8 @@ use std::alloc::AllocError;
 use std::collections::VecDeque;
 
 impl Server {
-    /// What a process of another node sealed comes: gets of its keys are answered, and processes released from fences, that
-    /// waited for it; where gets of its keys wait still, more is asked for.
+    /// Takes a piece of a process of another node. Gets and fences that waited for it are answered and released. If gets of its keys still
+    /// wait, the node asks for more.
     pub(crate) fn deliver_piece(
         &mut self,
         piece: &Piece,
@@ -46,7 +46,7 @@ impl Server {
         Ok(Delivery::Taken)
     }
 
-    /// Another node tells its header of a fence.
+    /// Takes another node's header of a fence.
     pub(crate) fn deliver_header(
         &mut self,
         header: &Header,
@@ -79,7 +79,7 @@ impl Server {
         Ok(Delivery::Taken)
     }
 
-    /// Another node asks for the own header of a fence: it is told that, once it exists.
+    /// Takes another node's request for the own header of a fence, and sends the header as soon as it exists.
     pub(crate) fn deliver_fence_ask(
         &mut self,
         ask: &FenceAsk,
@@ -116,7 +116,7 @@ impl Server {
         Ok(Delivery::Taken)
     }
 
-    /// Another node asks for the commits of an own process after those that it knows: it is sent those that were made.
+    /// Takes another node's request for the commits of an own process after those that it knows, and sends the existing ones.
     pub(crate) fn deliver_range_ask(
         &mut self,
         ask: &CommitAsk,
@@ -137,8 +137,8 @@ impl Server {
         Ok(Delivery::Taken)
     }
 
-    /// Another node asks for the commits of an own process after those that it knows: it is sent those that were made, or waits
-    /// for the next one.
+    /// Takes another node's request for the commits of an own process after those that it knows. It sends the existing ones, or else keeps
+    /// the request for the next commit.
     pub(crate) fn deliver_direct_ask(
         &mut self,
         ask: &CommitAsk,
@@ -166,7 +166,8 @@ impl Server {
         Ok(Delivery::Taken)
     }
 
-    /// Another node asks anew for the commits of an own process after those that it knows: it is told which there are, be it none.
+    /// Takes another node's request anew for the commits of an own process after those that it knows, and replies with the existing ones,
+    /// possibly with an empty piece.
     pub(crate) fn deliver_refresh_ask(
         &mut self,
         ask: &RefreshAsk,
@@ -194,8 +195,8 @@ impl Server {
         Ok(Delivery::Taken)
     }
 
-    /// The home of a process replies what it sealed after the commits that were known: the get that asked for it is answered, and
-    /// gets of its keys, and processes released from fences, that waited for it; where gets of its keys wait still, more is asked for.
+    /// Takes the reply of a process's home with the commits after the known ones. It answers the get that asked for it, other waiting gets
+    /// of the process's keys, and fences that waited for it. If gets of its keys still wait, the node asks for more.
     pub(crate) fn deliver_refresh_reply(
         &mut self,
         reply: &RefreshReply,

@@ -1,4 +1,4 @@
-//! What becomes of a frame that is delivered, and which requests for commits concern a node.
+//! The outcome of a delivered frame, and the requests for commits that concern a node.
 ghost use Rattle.std.specs.Prelude.{◌≡◌, ◌&&◌, ◌==◌};
 ghost use Rattle.pmg_jobinfo.specs.Jobs.{home_of};
 ghost use Rattle.pmg_node_model.specs.Acts.{is_known, is_peer};
@@ -8,31 +8,31 @@ use crate::server::Server;
 use pmg_frame::CommitAsk;
 use pmg_value::{NodeId, Proc};
 
-/// What becomes of a frame that is delivered.
+/// The outcome of a delivered frame.
 #[derive(Clone, Copy, PartialEq, Eq)]
 pub enum Delivery {
-    /// It is taken.
+    /// The node takes the frame.
     Taken,
-    /// It does not concern the node, and changes nothing.
+    /// The frame does not concern the node, and changes nothing.
     Ignored,
 }
 
 impl Server {
-    /// Whether the node is another one of the group.
+    /// Returns whether the node is another node of the group.
     pub(crate) fn is_peer(&self, node: NodeId) -> bool
         ensures { result ≡ is_peer self.now.jobs self.now.id node }
     {
         self.table.registry().has_node(node) && !(node == self.id)
     }
 
-    /// Whether the process is one of the group, or stands for its host.
+    /// Returns whether the process is a process of the group, or represents its host.
     pub(crate) fn is_known(&self, proc: &Proc) -> bool
         ensures { result ≡ is_known self.now.jobs proc.now }
     {
         is_member(self.table.registry(), proc) || proc.is_host()
     }
 
-    /// Whether another node asks for commits of a process at home at this node.
+    /// Returns whether another node asks for commits of a process at home at this node.
     pub(crate) fn is_asked(&self, ask: &CommitAsk) -> bool
         ensures { result ≡ (is_peer self.now.jobs self.now.id ask.now.node && is_known self.now.jobs ask.now.proc && (home_of self.now.jobs ask.now.proc == self.now.id)) }
     {

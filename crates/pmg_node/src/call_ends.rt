@@ -1,4 +1,4 @@
-//! A process ends its call: it leaves the fence that it is released from, or takes the answer of its get.
+//! The end of a process's call: it leaves the fence that released it, or takes the answer of its get.
 ghost use Rattle.std.specs.Prelude.{◌≡◌, []};
 ghost use Rattle.std.specs.Option.{option_map};
 ghost use Rattle.pmg_node_model.specs.Acts.{Act};
@@ -12,27 +12,27 @@ use crate::taking::pending;
 use pmg_node_parts::Call;
 use pmg_value::{Proc, Refusal};
 
-/// By what a process ends its call.
+/// The way in which a process ends its call.
 #[derive(Clone, Copy)]
 pub(crate) enum CallEnd {
-    /// It leaves the fence that it is released from (PMIx Standard 5.0, PMIx_Fence).
+    /// The process leaves the fence that released it (PMIx Standard 5.0, PMIx_Fence).
     Leave,
-    /// It takes the answer of its get (PMIx Standard 5.0, PMIx_Get).
+    /// The process takes the answer of its get (PMIx Standard 5.0, PMIx_Get).
     Take,
 }
 
-/// How a process's call stands to that.
+/// The state of a process's call, for that way to end it.
 #[derive(Drop)]
 pub(crate) enum CallStand {
-    /// It is in none that ends so.
+    /// The process is not in a call that ends in this way.
     Idle,
-    /// It is not over yet.
+    /// The call is not over yet.
     Waiting,
-    /// It was over, and the process is in none any more.
+    /// The call was over, and the process is not in a call any more.
     Over(Call),
 }
 
-/// What the process of the call is told, unless the call is over.
+/// Returns the reply to the process of the call, unless the call is over.
 fn stand(call: Option<&Call>, end: CallEnd) -> Option<CallStand>
     ensures { option_map (told_at end) result ≡ standing_reply end (option_map (λ c. standing_of c.now) call.entry) }
 {
@@ -42,7 +42,7 @@ fn stand(call: Option<&Call>, end: CallEnd) -> Option<CallStand>
     }
 }
 
-/// What the process is told whose call was over.
+/// Returns the reply to the process whose call was over.
 fn over(call: Option<Call>, end: CallEnd) -> CallStand
     ensures { told_at end result ≡ over_reply end (option_map standing_of call) }
 {
@@ -53,7 +53,7 @@ fn over(call: Option<Call>, end: CallEnd) -> CallStand
 }
 
 impl Server {
-    /// The process ends its call, where it is over; else nothing changes. Refused as `check_caller` refuses it. Nothing is sent.
+    /// Ends the process's call if it is over; else nothing changes. Sends nothing. Errors: the errors of `check_caller`.
     pub(crate) fn end_call(&mut self, proc: &Proc, end: CallEnd) -> Result<CallStand, Refusal>
         ensures reply { reply_in (told_at end) result ≡ reply_to self.old (Act.request (ending_request end proc.now)) }
         ensures done { self.new ≡ after self.old (Act.request (ending_request end proc.now)) }

@@ -1,4 +1,4 @@
-//! Where a call of a node has a cause to be refused.
+//! The causes to refuse a call of a node.
 ghost use Rattle.std.specs.Prelude.{◌≡◌, ◌||◌, false, IsTrue};
 ghost use Rattle.pmg_value.specs.CheckOrder.{first_of};
 ghost use Rattle.pmg_value.specs.Names.{is_reserved};
@@ -10,25 +10,25 @@ use crate::server::Server;
 use pmg_jobinfo::Registry;
 use pmg_value::{NodeId, Nspace, Proc, Refusal};
 
-/// Whether the namespace is registered.
+/// Returns whether the namespace is registered.
 pub(crate) fn is_registered(registry: &Registry, nspace: &Nspace) -> bool
     ensures { result ≡ is_registered registry.now nspace.now }
 {
     registry.homes(nspace).is_some()
 }
 
-/// What the registry says of a process.
+/// The registry's facts about a process.
 #[derive(Clone, Copy)]
 pub struct Listing {
     /// Whether its namespace is registered.
     pub is_registered: bool,
-    /// Whether the process is none of its namespace, which is registered.
+    /// Whether its namespace is registered, and the process is not in it.
     pub is_misnamed: bool,
-    /// Its home: node 0 for one that is none of its namespace, or of one that is not registered.
+    /// Its home: node 0 for a process outside its namespace, or of a namespace that is not registered.
     pub home: NodeId,
 }
 
-/// What the registry says of the process, by one look-up.
+/// Returns the registry's facts about the process, with one look-up.
 pub fn look_up(registry: &Registry, proc: &Proc) -> Listing
     ensures registered { result.is_registered ≡ is_registered registry.now proc.now.nspace }
     ensures misnamed { result.is_misnamed ≡ is_misnamed registry.now proc.now }
@@ -48,7 +48,7 @@ pub fn look_up(registry: &Registry, proc: &Proc) -> Listing
     }
 }
 
-/// Whether the process is one of its namespace, which is registered.
+/// Returns whether the process is in its namespace, which is registered.
 pub(crate) fn is_member(registry: &Registry, proc: &Proc) -> bool
     ensures value { result ≡ is_member registry.now proc.now }
     ensures client { IsTrue result → is_host proc.now ≡ false }
@@ -59,7 +59,7 @@ pub(crate) fn is_member(registry: &Registry, proc: &Proc) -> bool
     }
 }
 
-/// Whether the process is none of its namespace, which is registered.
+/// Returns whether the process is not in its namespace, which is registered.
 pub(crate) fn is_misnamed(registry: &Registry, proc: &Proc) -> bool
     ensures { result ≡ is_misnamed registry.now proc.now }
 {
@@ -69,7 +69,7 @@ pub(crate) fn is_misnamed(registry: &Registry, proc: &Proc) -> bool
     }
 }
 
-/// Whether a caller is misnamed at every node: its namespace begins with `pmix`, or it is none of its namespace.
+/// Returns whether a caller is misnamed at every node: its namespace begins with `pmix`, or the process is not in its registered namespace.
 pub(crate) fn is_bad_caller(registry: &Registry, proc: &Proc) -> bool
     ensures { result ≡ (is_reserved proc.now.nspace || is_misnamed registry.now proc.now) }
 {
@@ -77,7 +77,7 @@ pub(crate) fn is_bad_caller(registry: &Registry, proc: &Proc) -> bool
 }
 
 impl Server {
-    /// Judges who calls: a process of the group, at home at this node, that has not ended.
+    /// Checks the caller: a process of the group, at home at this node, that has not ended.
     pub fn check_caller(&self, proc: &Proc) -> Result<(), Refusal>
         ensures { result ≡ first_of (caller_cause self.now.jobs self.now.id self.now.holding proc.now) tt }
     {
@@ -94,7 +94,7 @@ impl Server {
         Ok(())
     }
 
-    /// Judges who calls, and that it is in no call.
+    /// Checks the caller, and that it is not in a call.
     pub fn check_free(&self, proc: &Proc) -> Result<(), Refusal>
         ensures { result ≡ first_of (free_cause self.now.jobs self.now.id self.now.holding proc.now) tt }
     {

@@ -22,18 +22,18 @@ use pmg_scope::Batch;
 use pmg_value::{Proc, Refusal};
 use std::collections::VecDeque;
 
-/// What comes of a commit.
+/// The result of a commit.
 #[derive(Drop)]
 pub struct Committed {
     /// The commit's number.
     pub level: u64,
-    /// What was joined for reads from the node itself.
+    /// The piece joined for reads from the node itself.
     pub near: Piece,
-    /// What was joined for reads from other nodes.
+    /// The piece joined for reads from other nodes.
     pub far: Piece,
 }
 
-/// What was published is kept: the nodes that waited for the commit wait no longer, and calls are answered.
+/// Keeps the published commit: the nodes that waited for it wait no longer, and calls are answered.
 pub(crate) fn keep_published(
     own: &LocalCommits,
     held: &mut Pending,
@@ -58,10 +58,10 @@ pub(crate) fn keep_published(
 }
 
 impl Server {
-    /// The process's next commit seals the batch, and is told to the nodes that wait for it (PMIx Standard 5.0, PMIx_Commit). Refused
-    /// as BadParam where the process is none of its namespace, or of one whose name begins with `pmix`; as UnknownNamespace; as NotMine
-    /// where it is at home at another node; as Terminated; as Busy where it is in a call; as TooMany where the commit would pass a
-    /// limit of a sealer; and as NoMemory.
+    /// Seals the batch as the process's next commit, and sends it to the nodes that wait for it (PMIx Standard 5.0, PMIx_Commit). Errors:
+    /// `BadParam` if the process is not in its registered namespace, or its namespace begins with `pmix`; `UnknownNamespace`; `NotMine` if
+    /// it is at home at another node; `Terminated`; `Busy` if it is in a call; `TooMany` if the commit would pass a limit of a sealer;
+    /// `NoMemory`.
     pub fn commit_joined(
         &mut self,
         proc: &Proc,

@@ -1,4 +1,4 @@
-//! A frame of another node comes.
+//! The delivery of a frame of another node.
 ghost use Rattle.std.specs.Prelude.{◌≡◌, ◌++◌, IfOk, OnOk, OnErr};
 ghost use Rattle.pmg_node_model.specs.Acts.{Act};
 ghost use Rattle.pmg_node.specs.Replies.{delivery_reply};
@@ -12,8 +12,8 @@ use std::alloc::AllocError;
 use std::collections::VecDeque;
 
 impl Server {
-    /// A frame of another node is taken, or ignored where it does not concern this one; the frames that go out are put after
-    /// those of the list. Where an allocation fails nothing changes.
+    /// Takes a frame of another node, or ignores it if it does not concern this one, and appends the frames that go out to the list. If an
+    /// allocation fails, nothing changes.
     pub fn deliver(
         &mut self,
         frame: &Frame,

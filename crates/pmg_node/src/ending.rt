@@ -31,8 +31,8 @@ use pmg_value::{NodeId, Proc, Refusal};
 use std::alloc::AllocError;
 use std::collections::VecDeque;
 
-/// The process is gone from the fences that it has not entered, as the table tells once it has ended after so many commits: the
-/// own headers that come to exist are due to other nodes. What there was before is told.
+/// Makes the process gone from the fences that it has not entered, after the end with so many commits in the table. Returns the earlier
+/// state, and the own headers that begin to exist, due to other nodes.
 fn end_fences(
     table: &mut Table,
     id: NodeId,
@@ -60,14 +60,14 @@ fn end_fences(
     }
 }
 
-/// What there was before a process ended: of what it sealed, if it had not ended, and of fences.
+/// The state before a process ended: the state of its sealer, if it had not ended, and of the fences.
 #[derive(Drop)]
 struct EndBefore {
     sealer: Option<SealerUndo>,
     table: TableUndo<'static>,
 }
 
-/// The own process's end is taken back, if it had not ended before.
+/// Takes the own process's end back, if it had not ended before.
 #[tactic(auto, unfolding(pmg_node_model::specs::Holdings::sealer_in))]
 fn take_seal_back(own: &mut LocalCommits, proc: &Proc, before: Option<SealerUndo>)
     requires client { is_host proc.now ≡ false }
@@ -80,7 +80,7 @@ fn take_seal_back(own: &mut LocalCommits, proc: &Proc, before: Option<SealerUndo
     }
 }
 
-/// The own process ends, and is gone from the fences that it has not entered: what is due by that, and what there was before.
+/// Ends the own process, and makes it gone from the fences that it has not entered. Returns the due frames and the earlier state.
 fn end(
     own: &mut LocalCommits,
     table: &mut Table,
@@ -114,7 +114,7 @@ fn end(
     }
 }
 
-/// The process's end is kept where it was published; where an allocation failed by then, it is taken back.
+/// Keeps the process's end if it was published; takes it back if an allocation failed before.
 fn keep_end(
     own: &mut LocalCommits,
     table: &mut Table,
@@ -143,10 +143,10 @@ fn keep_end(
 }
 
 impl Server {
-    /// The process ends (PMIx Standard 5.0, PMIx_Finalize): that is its last commit, by which others learn of it; it is gone from the
-    /// fences that it has not entered, and in no call any more. Refused as BadParam where the process is none of its namespace, or
-    /// of one whose name begins with `pmix`; as UnknownNamespace; as NotMine where it is at home at another node; as Terminated
-    /// where it has ended; and as NoMemory, and then nothing changes.
+    /// Ends the process (PMIx Standard 5.0, PMIx_Finalize). The end is its last commit, by which others learn that it has ended. The
+    /// process is gone from the fences that it has not entered, and in no call any more. Errors: `BadParam` if the process is not in its
+    /// registered namespace, or its namespace begins with `pmix`; `UnknownNamespace`; `NotMine` if it is at home at another node;
+    /// `Terminated` if it has ended; `NoMemory`, and then nothing changes.
     pub fn terminate(&mut self, proc: &Proc, out: &mut VecDeque<Sent>) -> Result<Committed, Refusal>
         ensures reply { Replies ended_reply result (reply_to self.old (Act.request (Request.terminate proc.now))) }
         ensures done { IsAnswered result → self.new ≡ after self.old (Act.request (Request.terminate proc.now)) }

@@ -35,7 +35,7 @@ use pmg_value::{Proc, Rank, Refusal};
 use std::alloc::AllocError;
 use std::collections::VecDeque;
 
-/// Whether the process may not stand in a list of participants.
+/// Returns whether a list of participants may not have the process.
 fn is_bad(registry: &Registry, proc: &Proc) -> bool
     ensures { result ≡ (is_reserved proc.now.nspace || is_bad registry.now proc.now) }
 {
@@ -45,7 +45,7 @@ fn is_bad(registry: &Registry, proc: &Proc) -> bool
     !proc.rank.is_wildcard() && is_misnamed(registry, proc)
 }
 
-/// Whether one of the processes may not stand in a list of participants.
+/// Returns whether a list of participants may not have one of the processes.
 pub(crate) fn has_bad(registry: &Registry, list: &[Proc]) -> bool
     ensures { result ≡ list_any (λ q. is_reserved q.nspace || is_bad registry.now q) list.now }
 {
@@ -57,7 +57,7 @@ pub(crate) fn has_bad(registry: &Registry, list: &[Proc]) -> bool
     false
 }
 
-/// Whether the namespace of one of the processes is not registered.
+/// Returns whether the namespace of one of the processes is not registered.
 pub(crate) fn has_unknown(registry: &Registry, list: &[Proc]) -> bool
     ensures { result ≡ list_any (λ q. not (is_registered registry.now q.nspace)) list.now }
 {
@@ -69,7 +69,7 @@ pub(crate) fn has_unknown(registry: &Registry, list: &[Proc]) -> bool
     false
 }
 
-/// Whether who enters, or a process in the list of participants, is none that a list may name.
+/// Returns whether the entering process, or a process in the list of participants, is one that a list may not name.
 fn is_bad_entry(registry: &Registry, proc: &Proc, list: &[Proc]) -> bool
     ensures { result ≡ (is_reserved proc.now.nspace || (is_misnamed registry.now proc.now
         || list_any (λ q. is_reserved q.nspace || is_bad registry.now q) list.now)) }
@@ -77,7 +77,7 @@ fn is_bad_entry(registry: &Registry, proc: &Proc, list: &[Proc]) -> bool
     proc.nspace.is_reserved() || is_misnamed(registry, proc) || has_bad(registry, list)
 }
 
-/// Whether the namespace of who enters, or of a process in the list of participants, is not registered.
+/// Returns whether the namespace of the entering process, or of a process in the list of participants, is not registered.
 fn is_unknown_entry(registry: &Registry, proc: &Proc, list: &[Proc]) -> bool
     ensures { result ≡ (not (is_registered registry.now proc.now.nspace)
         || list_any (λ q. not (is_registered registry.now q.nspace)) list.now) }
@@ -85,14 +85,14 @@ fn is_unknown_entry(registry: &Registry, proc: &Proc, list: &[Proc]) -> bool
     !is_registered(registry, &proc.nspace) || has_unknown(registry, list)
 }
 
-/// Whether a list of participants does not mean who enters. An empty one stands for the whole namespace of that process.
+/// Returns whether a list of participants does not include the entering process. An empty list means the whole namespace of this process.
 fn is_outside(registry: &Registry, proc: &Proc, list: &[Proc]) -> bool
     ensures { result ≡ (not (length list.now == 0) && not (set.contains (expansion registry.now list.now) proc.now)) }
 {
     !list.is_empty() && !registry.is_meant(list, proc)
 }
 
-/// The processes that a list of participants, which was judged, stands for.
+/// Returns the processes that a checked list of participants means.
 pub(crate) fn expand(registry: &Registry, list: &[Proc]) -> Result<Vec<Proc>, AllocError>
     ensures { IfOk result (λ procs. set.from_list {R = proc_cmp} procs.items ≡ expansion registry.now list.now) }
 {
@@ -102,7 +102,7 @@ pub(crate) fn expand(registry: &Registry, list: &[Proc]) -> Result<Vec<Proc>, Al
     }
 }
 
-/// The participants that who enters asks for. An empty list stands for the whole namespace of that process.
+/// Returns the participants that the entering process asks for. An empty list means the whole namespace of this process.
 fn participants(registry: &Registry, proc: &Proc, list: &[Proc]) -> Result<Vec<Proc>, AllocError>
     ensures { IfOk result (λ procs. set.from_list {R = proc_cmp} procs.items ≡ expansion registry.now (list_of proc.now list.now)) }
 {
@@ -113,7 +113,7 @@ fn participants(registry: &Registry, proc: &Proc, list: &[Proc]) -> Result<Vec<P
     expand(registry, &[whole])
 }
 
-/// The signature of participants who were judged, unless there are too many.
+/// Returns the signature of checked participants, unless there are too many.
 fn signature(procs: Vec<Proc>, collect: bool) -> Result<Option<Signature>, AllocError>
     ensures { IfOk result (λ found. found ≡ (if nat_lt MAX_PARTICIPANTS (set.len (set.from_list {R = proc_cmp} procs.items))
         then None else Some (signature procs.items collect))) }
@@ -125,7 +125,7 @@ fn signature(procs: Vec<Proc>, collect: bool) -> Result<Option<Signature>, Alloc
     }
 }
 
-/// The signature that who enters asks for, whose list of participants was judged, unless there are too many.
+/// Returns the signature that the entering process asks for, by its checked list of participants, unless there are too many.
 fn signature_for(
     registry: &Registry,
     proc: &Proc,
@@ -139,8 +139,8 @@ fn signature_for(
     signature(procs, collect)
 }
 
-/// The process is in the fence, which is the next one of the signature that it enters: it is released at once where this makes
-/// the fence ready. Where an allocation fails, all is as before.
+/// Puts the process into the fence, which is the next one of the signature for it. The process is released at once if its entry makes the
+/// fence ready. If an allocation fails, nothing changes.
 fn enter_fence(
     around: &FenceContext<'_>,
     table: &mut Table,
@@ -178,7 +178,7 @@ fn enter_fence(
 }
 
 impl Server {
-    /// Judges who enters a fence, and the list of participants, but for the limits of an entry.
+    /// Checks the entering process and the list of participants, except for the limits of an entry.
     fn check_entry(&self, proc: &Proc, list: &[Proc]) -> Result<(), Refusal>
         ensures { result ≡ first_of (entry_cause self.now.jobs self.now.id self.now.holding proc.now list.now) tt }
     {
@@ -204,8 +204,8 @@ impl Server {
         Ok(())
     }
 
-    /// Whether the list of who enters, which was judged, stands for more participants than a fence may have. An empty one stands for
-    /// a namespace, which has no more. It takes no memory, and the time that `count_meant` takes.
+    /// Returns whether the checked list means more participants than a fence may have. An empty list means a namespace, which is within the
+    /// limit. It takes no memory, and as much time as `count_meant`.
     fn is_crowd(&self, proc: &Proc, list: &[Proc]) -> bool
         ensures { result ≡ is_crowd self.now.jobs proc.now list.now }
     {
@@ -216,8 +216,8 @@ impl Server {
         registry.count_meant(list) > MAX_PARTICIPANTS
     }
 
-    /// The signature that who enters asks for, whose list of participants was judged, unless there are too many: that is told
-    /// though an allocation fails.
+    /// Returns the signature that the entering process asks for, by its checked list of participants; `None` if there are too many
+    /// participants, even if an allocation fails.
     fn asked_signature(
         &self,
         proc: &Proc,
@@ -239,7 +239,7 @@ impl Server {
         }
     }
 
-    /// The name of the fence that the process enters, whose list of participants was judged; none where the entry passes a limit.
+    /// Returns the name of the fence that the process enters, by its checked list of participants; `None` if the entry passes a limit.
     fn next_fence(
         &self,
         proc: &Proc,
@@ -260,11 +260,11 @@ impl Server {
         Ok(Some(FenceName::from_checked(shared, count + 1)))
     }
 
-    /// The process enters its next fence of these participants (PMIx Standard 5.0, PMIx_Fence): the instance is given. An empty
-    /// list stands for its whole namespace. Refused as BadParam where the process or one in the list is none of its namespace, or
-    /// of one whose name begins with `pmix`; as UnknownNamespace; as NotMine where the process is at home at another node; as
-    /// Terminated; as Busy where it is in a call; as NotAParticipant; as TooMany past 4,096 participants or 4,294,967,295
-    /// entries; and as NoMemory, which is told before TooMany only where the entry is one too many.
+    /// Enters the process into its next fence of these participants, and returns the instance (PMIx Standard 5.0, PMIx_Fence). An empty
+    /// list means its whole namespace. Errors: `BadParam` if the process or one in the list is not in its registered namespace, or is of a
+    /// namespace that begins with `pmix`; `UnknownNamespace`; `NotMine` if the process is at home at another node; `Terminated`; `Busy` if
+    /// it is in a call; `NotAParticipant`; `TooMany` past 4,096 participants or 4,294,967,295 entries; `NoMemory`, which comes before
+    /// `TooMany` only if the entry is one too many.
     pub fn enter(
         &mut self,
         proc: &Proc,

@@ -1,4 +1,5 @@
-//! A fence changes at a node: its own header is announced where it comes to exist, and whoever can be released is.
+//! The change of a fence at a node: the node announces its own header if it begins to exist, and releases each process that can be
+//! released.
 ghost use Rattle.std.specs.Prelude.{◌≡◌, ◌++◌, [], IfOk, OnOk, OnErr};
 ghost use Rattle.std.specs.List.{flat_map};
 ghost use Rattle.pmg_fence.specs.Kept.{placed_by, CanChange};
@@ -22,7 +23,7 @@ use pmg_value::{NodeId, Proc};
 use std::alloc::{AllocError, Global};
 use std::collections::VecDeque;
 
-/// What stays as it is while a fence changes.
+/// The parts of a node that a change of a fence leaves unchanged.
 #[derive(Clone, Copy)]
 pub(crate) struct FenceContext<'a> {
     pub(crate) id: NodeId,
@@ -30,7 +31,7 @@ pub(crate) struct FenceContext<'a> {
     pub(crate) own: &'a LocalCommits,
 }
 
-/// The headers are due to each other node of their fences, one after the other.
+/// Returns the headers, due to each other node of their fences, one after the other.
 pub(crate) fn announce_all(
     registry: &Registry,
     id: NodeId,
@@ -45,7 +46,7 @@ pub(crate) fn announce_all(
     Ok(dues)
 }
 
-/// The header goes out to the node, and where the fence collects data, the commits of each process that it lists.
+/// Sends the header to the node, and, if the fence collects data, the commits of each process that it lists.
 pub(crate) fn tell_node(
     alloc: Global,
     own: &LocalCommits,
@@ -65,7 +66,7 @@ pub(crate) fn tell_node(
     Ok(())
 }
 
-/// The own headers that have come to exist go out. What calls in the fence come to be answered is told.
+/// Sends the own headers that began to exist, and returns the answers of the calls in the fence.
 fn send_news(
     around: &FenceContext<'_>,
     table: &Table,
@@ -97,8 +98,8 @@ fn send_news(
     Ok(answers)
 }
 
-/// The fence changes in the table. Its own header is announced where it comes to exist by this, and whoever can be released from
-/// it is; at last the instances of its signature that are old by now are forgotten. Where an allocation fails, all is as before.
+/// Changes the fence in the table. The own header is announced if the change makes it exist, and each process that can be released is. Then
+/// the instances of its signature that became old are forgotten. If an allocation fails, nothing changes.
 pub(crate) fn change_fence(
     around: &FenceContext<'_>,
     table: &mut Table,

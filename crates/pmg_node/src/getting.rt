@@ -1,4 +1,4 @@
-//! A process gets a key of another one.
+//! The get of another process's key.
 ghost use Rattle.std.specs.Prelude.{◌≡◌, false};
 ghost use Rattle.pmg_value.specs.Names.{is_reserved};
 ghost use Rattle.pmg_value.specs.declared.refusal.Refusal.TheVariants as refusals;
@@ -14,14 +14,14 @@ use pmg_get::{Answer, Mode};
 use pmg_node_parts::BoardPreview;
 use pmg_value::{Key, NodeId, Proc};
 
-/// Whether no particular rank is named.
+/// Returns whether the process has no particular rank.
 fn is_general(proc: &Proc) -> bool
     ensures { result ≡ is_general proc.now }
 {
     proc.rank.is_wildcard() || proc.rank.is_undef()
 }
 
-/// Whether a get may not ask for a key of the target, which is misnamed or is not.
+/// Returns whether a get may not ask for a key of the target, given whether the target is misnamed.
 pub fn is_bad_get(proc: &Proc, target: &Proc, key: &Key, misnamed: bool) -> bool
     ensures { (jobs : Jobs) → misnamed ≡ is_misnamed jobs target.now → result ≡ target_cause jobs proc.now (get_of target.now key.now) refusals.BadParam }
 {
@@ -35,7 +35,7 @@ pub fn is_bad_get(proc: &Proc, target: &Proc, key: &Key, misnamed: bool) -> bool
 }
 
 impl Server {
-    /// What a get of a key that is not reserved, of a target that is at home there, is answered here.
+    /// Returns the answer of this node to a get of a key that is not reserved, given the target's home.
     #[tactic(auto, unfolding(pmg_node_model::specs::Holdings::seen_of))]
     pub(crate) fn answer(&self, target: &Proc, home: NodeId, key: &Key, mode: Mode) -> Answer<'_>
         requires plain { is_reserved key.now ≡ false }

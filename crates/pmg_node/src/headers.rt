@@ -1,4 +1,4 @@
-//! Which headers of fences, and which requests for one, a node takes.
+//! The headers of fences, and the requests for headers, that a node takes.
 ghost use Rattle.std.specs.Prelude.{◌≡◌};
 ghost use Rattle.pmg_frame.specs.declared.frame.Frame.TheVariants as frames;
 ghost use Rattle.pmg_jobinfo.specs.Jobs.{is_member};
@@ -12,7 +12,7 @@ use pmg_frame::{FenceAsk, FenceName, Header};
 use pmg_jobinfo::Registry;
 use pmg_node_parts::takes_part;
 
-/// Whether each participant of the fence is one of the group.
+/// Returns whether each participant of the fence is a process of the group.
 fn are_members(registry: &Registry, name: &FenceName) -> bool
     ensures { result ≡ list_all (is_member registry.now) (participants_of name.now) }
 {
@@ -24,7 +24,7 @@ fn are_members(registry: &Registry, name: &FenceName) -> bool
     true
 }
 
-/// Whether the header lists just its node's participants, in their order.
+/// Returns whether the header lists exactly its node's participants, in their order.
 fn is_complete(registry: &Registry, header: &Header) -> bool
     ensures { result ≡ is_complete registry.now header.now }
 {
@@ -46,7 +46,7 @@ fn is_complete(registry: &Registry, header: &Header) -> bool
 }
 
 impl Server {
-    /// Whether the node has a participant in the fence, and each participant is of the group.
+    /// Returns whether the node has a participant in the fence, and each participant is of the group.
     fn is_concerned(&self, name: &FenceName) -> bool
         ensures { result ≡ is_concerned self.now.jobs self.now.id name.now }
     {
@@ -54,8 +54,8 @@ impl Server {
         are_members(registry, name) && takes_part(registry, name, self.id)
     }
 
-    /// Whether the header comes from another node, is of a fence that concerns this one and is not forgotten, and lists its node's
-    /// participants.
+    /// Returns whether the header comes from another node, is of a fence that concerns this node and is not forgotten, and lists exactly
+    /// its node's participants.
     #[tactic(auto, unfolding(pmg_node_model::specs::Acts::is_taken))]
     pub(crate) fn is_told(&self, header: &Header) -> bool
         ensures { result ≡ is_taken self.now.jobs self.now.id self.now.holding.table (frames.Header header.now) }
@@ -66,7 +66,7 @@ impl Server {
             && !self.table.is_old(header.name())
     }
 
-    /// Whether the request comes from another node, and is for a header of a fence that concerns this one and is not forgotten.
+    /// Returns whether the request comes from another node, and is for a header of a fence that concerns this node and is not forgotten.
     #[tactic(auto, unfolding(pmg_node_model::specs::Acts::is_taken))]
     pub(crate) fn is_asked_for(&self, ask: &FenceAsk) -> bool
         ensures { result ≡ is_taken self.now.jobs self.now.id self.now.holding.table (frames.FenceAsk ask.now) }

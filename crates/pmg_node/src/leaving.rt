@@ -1,4 +1,4 @@
-//! A process leaves a fence that it is released from.
+//! The leave of a process from the fence that released it.
 ghost use Rattle.std.specs.Prelude.{◌≡◌, []};
 ghost use Rattle.std.specs.Option.{option_map};
 ghost use Rattle.pmg_node_model.specs.Acts.{Act, Request};
@@ -13,18 +13,18 @@ use crate::server::Server;
 use pmg_node_parts::Call;
 use pmg_value::{Proc, Refusal};
 
-/// What a process that leaves a fence is told (PMIx Standard 5.0, PMIx_Fence).
+/// The answer to a process that leaves a fence (PMIx Standard 5.0, PMIx_Fence).
 #[derive(Drop)]
 pub enum Release {
-    /// It is in no fence.
+    /// The process is in no fence.
     Idle,
-    /// It is not released yet.
+    /// The process is not released yet.
     Waiting,
-    /// It is released from the instance of its fence, from which these participants were gone.
+    /// The process is released from the instance of its fence; these participants were gone.
     Released(u64, Vec<Proc>),
 }
 
-/// What the process of the call is told, unless it is released.
+/// Returns the answer to the process of the call, unless it is released.
 pub(crate) fn stays(call: Option<&Call>) -> Option<CallStand>
     ensures { option_map (told_at ends.Leave) result ≡ stays_reply (option_map (λ c. standing_of c.now) call.entry) }
 {
@@ -39,7 +39,7 @@ pub(crate) fn stays(call: Option<&Call>) -> Option<CallStand>
     }
 }
 
-/// What the process is told, as its call stands.
+/// Returns the answer to the process, by the state of its call.
 fn release_of(stand: CallStand) -> Release
     ensures { release_reply result ≡ told_at ends.Leave stand }
 {
@@ -54,10 +54,10 @@ fn release_of(stand: CallStand) -> Release
 }
 
 impl Server {
-    /// The process leaves the fence that it is released from, and is told the fence's instance and who was gone (PMIx Standard
-    /// 5.0, PMIx_Fence). Until it is released it waits, and nothing changes; one that is in no fence is idle. Refused as BadParam
-    /// where the process is none of its namespace, or of one whose name begins with `pmix`; as UnknownNamespace; as NotMine
-    /// where it is at home at another node; as Terminated. Nothing is sent, and no memory is taken.
+    /// Lets the process leave the fence that released it, and returns the fence's instance and the gone participants (PMIx Standard 5.0,
+    /// PMIx_Fence). Before its release the process waits, and nothing changes; a process in no fence is idle. Sends nothing, and takes no
+    /// memory. Errors: `BadParam` if the process is not in its registered namespace, or its namespace begins with `pmix`;
+    /// `UnknownNamespace`; `NotMine` if it is at home at another node; `Terminated`.
     pub fn take_release(&mut self, proc: &Proc) -> Result<Release, Refusal>
         ensures reply { reply_in release_reply result ≡ reply_to self.old (Act.request (Request.leave proc.now)) }
         ensures done { self.new ≡ after self.old (Act.request (Request.leave proc.now)) }

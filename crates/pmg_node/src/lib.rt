@@ -1,4 +1,4 @@
-//! One server of one node: every call of its processes and every frame of another node is one step of the model.
+//! The server of one node: every call of its processes and every frame of another node is one step of the model.
 #![tactic(auto)]
 
 mod act;

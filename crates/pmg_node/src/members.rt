@@ -1,4 +1,4 @@
-//! The process sets, as a node knows them.
+//! The process sets in a node's knowledge.
 ghost use Rattle.std.specs.Prelude.{◌≡◌, IfOk};
 ghost use Rattle.std.specs.Result.{result_map_both};
 ghost use Rattle.pmg_value.specs.CheckOrder.{first_of};
@@ -11,9 +11,9 @@ use pmg_pset::members_in;
 use pmg_value::{Array, Key, Proc, Refusal};
 
 impl Server {
-    /// The members of the process set of that name, as an array of processes, as the node knows of them (PMIx Standard 5.0,
-    /// PMIX_QUERY_PSET_MEMBERSHIP). Refused as BadParam where the name begins with `pmix`, and as NotFound where no set of that
-    /// name is known, or the last that is known of it is its deletion. It takes no memory.
+    /// Returns the members of the process set of that name, as an array of processes, by the node's knowledge (PMIx Standard 5.0,
+    /// PMIX_QUERY_PSET_MEMBERSHIP). It takes no memory. Errors: `BadParam` if the name begins with `pmix`; `NotFound` if the node knows no
+    /// set of that name, or last learned of its deletion.
     pub fn set_members(&self, name: &Key) -> Result<&Array, Refusal>
         ensures value { result_map_both (λ a. spelling (values.Array a.now)) (λ e. e) result
             ≡ first_of (known_members_cause self.now.holding.far name.now) (members_known self.now.holding.far name.now) }

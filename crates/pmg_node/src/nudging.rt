@@ -1,4 +1,4 @@
-//! Other nodes are asked again for what is missing.
+//! Repeated requests to other nodes for missing headers and commits.
 ghost use Rattle.std.specs.Prelude.{◌≡◌, ◌&&◌, ◌++◌, ◌==◌, not, IfOk, OnOk, OnErr};
 ghost use Rattle.std.specs.List.{flat_map};
 ghost use Rattle.pmg_commit.specs.Data.{level_at};
@@ -23,7 +23,7 @@ use std::alloc::AllocError;
 use std::collections::VecDeque;
 
 impl Server {
-    /// This node's ask for the commits of the process past the level that is known.
+    /// Returns this node's request for the commits of the process above the known level.
     fn commit_ask(&self, proc: &Proc) -> Result<CommitAsk, AllocError>
         ensures { IfOk result (λ ask. ask ≡ commit_ask self.now.id proc.now (level_at self.now.holding.far proc.now)) }
     {
@@ -34,7 +34,7 @@ impl Server {
         }
     }
 
-    /// The node is asked for the commits of the process past the level that is known.
+    /// Returns the due request to the node for the commits of the process above the known level.
     fn range_due(&self, to: NodeId, proc: &Proc) -> Result<ToSend, AllocError>
         ensures { IfOk result (λ due. due ≡ sendings.Whole (sent to (frames.RangeAsk
             (commit_ask self.now.id proc.now (level_at self.now.holding.far proc.now))))) }
@@ -45,8 +45,8 @@ impl Server {
         }))
     }
 
-    /// The home of the process, where that is another node, is asked for its commits past the level that is known, and answers
-    /// once there are some.
+    /// Makes a request due to the home of the process, if this is another node, for its commits above the known level. The home answers as
+    /// soon as there are some.
     pub(crate) fn ask_home(&self, target: &Proc, dues: &mut Vec<ToSend>) -> Result<(), AllocError>
         ensures { OnOk result (dues.new.items ≡ dues.old.items ++ asking_home self.now.jobs self.now.id self.now.holding target.now) }
     {
@@ -61,7 +61,7 @@ impl Server {
         Ok(())
     }
 
-    /// This node's request under the number for the commits of the process past the level that is known.
+    /// Returns this node's request, under the number, for the commits of the process above the known level.
     fn refresh_ask(&self, proc: &Proc, number: u64) -> Result<RefreshAsk, AllocError>
         ensures { IfOk result (λ ask. ask ≡ ask_anew self.now.id self.now.holding proc.now number) }
     {
@@ -71,7 +71,7 @@ impl Server {
         }
     }
 
-    /// The home of the process, where that is another node, is asked anew for its commits past the level that is known.
+    /// Makes a request anew due to the home of the process, if this is another node, for its commits above the known level.
     pub(crate) fn ask_home_anew(
         &self,
         target: &Proc,
@@ -91,7 +91,7 @@ impl Server {
         Ok(())
     }
 
-    /// For a get that waits for a key of the process, its home is asked, and anew where the get's request has a number.
+    /// Makes the request due for a get that waits for a key of the process, and makes it anew if the get's request has a number.
     fn ask_as(
         &self,
         target: &Proc,
@@ -106,7 +106,7 @@ impl Server {
         }
     }
 
-    /// The other nodes whose header of the fence is missing are asked for it.
+    /// Makes requests due for the missing headers of the fence, to their nodes.
     fn ask_headers(&self, name: &FenceName, dues: &mut Vec<ToSend>) -> Result<(), AllocError>
         ensures { OnOk result (dues.new.items ≡ dues.old.items ++ asking_headers self.now.jobs self.now.id self.now.holding name.now) }
     {
@@ -122,7 +122,7 @@ impl Server {
         Ok(())
     }
 
-    /// Whether the process, of another node, has commits that a header of the fence names and that are missing here.
+    /// Returns whether the process, of another node, has commits that a header of the fence names and that this node does not know.
     fn is_behind(&self, name: &FenceName, proc: &Proc) -> bool
         ensures { result ≡ (not (home_of self.now.jobs proc.now == self.now.id) && is_behind (level_at self.now.holding.far proc.now)
             (told_of self.now.jobs self.now.id self.now.holding.table name.now proc.now)) }
@@ -136,7 +136,7 @@ impl Server {
         }
     }
 
-    /// Of each participant of another node whose commits are missing that a header of the fence names, the home is asked.
+    /// Makes requests due for the missing commits that a header of the fence names, to the home of each participant of another node.
     fn ask_ranges(&self, name: &FenceName, dues: &mut Vec<ToSend>) -> Result<(), AllocError>
         ensures { OnOk result (dues.new.items ≡ dues.old.items ++ asking_ranges self.now.jobs self.now.id self.now.holding name.now) }
     {
@@ -150,7 +150,7 @@ impl Server {
         Ok(())
     }
 
-    /// Other nodes are asked for what is missing of the fence: headers, and where it collects data, commits.
+    /// Makes requests due for the missing headers of the fence, and, if it collects data, for the missing commits.
     fn ask_fence(&self, name: &FenceName, dues: &mut Vec<ToSend>) -> Result<(), AllocError>
         ensures { OnOk result (dues.new.items ≡ dues.old.items ++ asking_fence self.now.jobs self.now.id self.now.holding name.now) }
     {
@@ -161,7 +161,7 @@ impl Server {
         Ok(())
     }
 
-    /// The same for each fence in which an own process waits.
+    /// Makes the requests of `ask_fence` due for each fence in which an own process waits.
     fn ask_fences(&self, dues: &mut Vec<ToSend>) -> Result<(), AllocError>
         ensures { OnOk result (dues.new.items ≡ dues.old.items
             ++ flat_map (asking_fence self.now.jobs self.now.id self.now.holding) (waited_in self.now.holding)) }
@@ -172,7 +172,7 @@ impl Server {
         Ok(())
     }
 
-    /// For each get that waits, the home of the process whose key it waits for is asked.
+    /// Makes a request due for each get that waits, to the home of the process whose key it waits for.
     fn ask_homes(&self, dues: &mut Vec<ToSend>) -> Result<(), AllocError>
         ensures { OnOk result (dues.new.items ≡ dues.old.items
             ++ flat_map (asking_as self.now.jobs self.now.id self.now.holding) (all_asks self.now.holding.calls)) }
@@ -183,7 +183,7 @@ impl Server {
         Ok(())
     }
 
-    /// Node 0 is asked for changes of the process sets.
+    /// Makes a request to node 0 due for changes of the process sets.
     fn ask_sets(&self, dues: &mut Vec<ToSend>) -> Result<(), AllocError>
         ensures { OnOk result (dues.new.items ≡ dues.old.items ++ asking_sets self.now.id self.now.holding) }
     {
@@ -196,7 +196,7 @@ impl Server {
         Ok(())
     }
 
-    /// All that is missing here is asked for.
+    /// Makes all requests due for missing headers and commits.
     fn ask_all(&self, dues: &mut Vec<ToSend>) -> Result<(), AllocError>
         ensures { OnOk result (dues.new.items ≡ dues.old.items ++ nudging self.now.jobs self.now.id self.now.holding) }
     {
@@ -206,9 +206,9 @@ impl Server {
         Ok(())
     }
 
-    /// Other nodes are asked again for what is missing (this project's call): for headers of the fences in which own processes
-    /// wait, and for commits that headers of those that collect data name; for commits of the processes whose keys gets wait
-    /// for, anew where a get asks anew; and on other nodes than 0 for changes of the process sets. Nothing else changes.
+    /// Asks other nodes again for missing headers and commits (this project's call). It asks for headers of the fences in which own
+    /// processes wait, and for commits that headers name in fences that collect data. It asks for commits of the processes whose keys gets
+    /// wait for, anew for a get that asks anew. Nodes other than 0 also ask for changes of the process sets. Nothing else changes.
     pub fn nudge(&mut self, out: &mut VecDeque<Sent>) -> Result<(), AllocError>
         ensures reply { reply_to self.old (Act.request Request.nudge) ≡ Reply.done }
         ensures ok { OnOk result (self.new ≡ after self.old (Act.request Request.nudge)) }

@@ -20,7 +20,7 @@ use pmg_store::Board;
 use pmg_value::{NodeId, Proc};
 use std::alloc::{AllocError, Global};
 
-/// The process has its place among those that seal.
+/// Adds a fresh sealer of the process.
 fn add_fresh(alloc: Global, sealers: &mut Sealers, proc: Proc) -> Result<(), AllocError>
     requires { can_commit proc ≡ true }
     ensures { OnOk result (sealers.new ≡ finite.insert sealers.old proc (fresh proc)) }
@@ -29,7 +29,7 @@ fn add_fresh(alloc: Global, sealers: &mut Sealers, proc: Proc) -> Result<(), All
     sealers.add(&proc, sealer)
 }
 
-/// Places for these processes, which made no commit.
+/// Returns fresh sealers of these processes, without commits.
 fn fresh_sealers(alloc: Global, mut procs: Vec<Proc>) -> Result<Sealers, AllocError>
     requires { list_all can_commit procs.items ≡ true }
     ensures { IfOk result (λ sealers. sealers ≡ with_fresh procs.items finite.empty) }
@@ -51,7 +51,7 @@ fn set_zeros(marks: &mut Marks, proc: &Proc, nodes: &[NodeId]) -> Result<(), All
     Ok(())
 }
 
-/// Marks of these processes at each of the nodes, at 0.
+/// Returns marks of these processes at each of the nodes, at 0.
 fn zero_marks(alloc: Global, procs: &[Proc], nodes: &[NodeId]) -> Result<Marks, AllocError>
     ensures { IfOk result (λ marks. marks ≡ zeros finite.empty procs.now nodes.now) }
 {
@@ -62,7 +62,7 @@ fn zero_marks(alloc: Global, procs: &[Proc], nodes: &[NodeId]) -> Result<Marks, 
     Ok(marks)
 }
 
-/// Those whose commits a node may send.
+/// Returns the processes whose commits a node may send.
 fn senders(registry: &Registry, id: NodeId) -> Result<Vec<Proc>, AllocError>
     ensures { IfOk result (λ procs. procs.items ≡ senders registry.now id) }
 {
@@ -76,7 +76,7 @@ fn senders(registry: &Registry, id: NodeId) -> Result<Vec<Proc>, AllocError>
 }
 
 impl Server {
-    /// A new node of the group, of that index: none of its processes has called. It keeps the registry's allocator.
+    /// Makes a new node of the group, of that index, whose processes have not called. It keeps the registry's allocator.
     pub fn new(id: NodeId, registry: Registry) -> Result<Server, AllocError>
         requires { is_node registry id ≡ true }
         ensures { IfOk result (λ node. node ≡ new_server registry id) }

@@ -1,4 +1,4 @@
-//! A process asks for a key.
+//! The request of a process for a key.
 ghost use Rattle.std.specs.Prelude.{◌≡◌, ◌&&◌, ◌++◌, not, true, false, Ok, Err, OnOk, OnErr};
 ghost use Rattle.pmg_value.specs.CheckOrder.{first_of};
 ghost use Rattle.pmg_value.specs.Names.{is_reserved};
@@ -26,7 +26,7 @@ use pmg_value::{Key, NodeId, Proc, Refusal, Value};
 use std::alloc::AllocError;
 use std::collections::VecDeque;
 
-/// What a process that asks for a key is told (PMIx Standard 5.0, PMIx_Get).
+/// The answer to a process that asks for a key (PMIx Standard 5.0, PMIx_Get).
 #[derive(Drop)]
 pub enum Asked {
     /// The value.
@@ -35,7 +35,7 @@ pub enum Asked {
     Parked,
 }
 
-/// What a process is told whose get is answered so.
+/// Returns the answer to a process whose get has this outcome.
 fn to_asked(answer: Answer<'_>) -> Result<Asked, Refusal>
     ensures { Replies asked_reply result (reply_of (outcome_of answer.entry)) }
 {
@@ -48,7 +48,7 @@ fn to_asked(answer: Answer<'_>) -> Result<Asked, Refusal>
 }
 
 impl Server {
-    /// Judges who asks, and for whose key, of whom the registry says this.
+    /// Checks the caller and the target, given the registry's facts about the target.
     fn check_target(
         &self,
         proc: &Proc,
@@ -75,7 +75,7 @@ impl Server {
         Err(Refusal::UnknownNamespace)
     }
 
-    /// Judges a get: who asks, for whose key, and that there is a number for the request where one is sent.
+    /// Checks a get: the caller, the target, and that a number is left if the node has to send a request.
     fn check_ask(
         &self,
         proc: &Proc,
@@ -97,7 +97,7 @@ impl Server {
         self.check_number(target, key, mode)
     }
 
-    /// What a process is told that asks for a reserved key, which the registry answers.
+    /// Returns the registry's answer to a process that asks for a reserved key.
     fn tell_reserved(&self, target: &Proc, key: &Key) -> Result<Asked, Refusal>
         requires reserved { is_reserved key.now ≡ true }
         requires known { is_registered self.now.jobs target.now.nspace ≡ true }
@@ -111,7 +111,7 @@ impl Server {
         }
     }
 
-    /// What a process is told that asks for a key of the target, which is at home there.
+    /// Returns the answer to a process that asks for a key of the target, given the target's home.
     fn tell(&self, target: &Proc, home: NodeId, key: &Key, mode: Mode) -> Result<Asked, Refusal>
         requires home { home ≡ home_of self.now.jobs target.now }
         requires known { is_registered self.now.jobs target.now.nspace ≡ true }
@@ -124,7 +124,7 @@ impl Server {
         to_asked(self.answer(target, home, key, mode))
     }
 
-    /// The process's get, which finds nothing yet, waits, and the target's home is asked.
+    /// Parks the process's get, which finds nothing yet, and asks the target's home.
     fn park(
         &mut self,
         proc: &Proc,
@@ -155,7 +155,7 @@ impl Server {
         Ok(())
     }
 
-    /// The process's get waits, as its mode says.
+    /// Makes the process's get wait, as its mode says.
     fn wait(
         &mut self,
         proc: &Proc,
@@ -181,14 +181,13 @@ impl Server {
         }
     }
 
-    /// The process asks for a key of the target (PMIx Standard 5.0, PMIx_Get): it is told the value, or waits until there is
-    /// something to answer, unless the mode is not to wait; where it asks anew, of a process at home at another node, it waits for
-    /// what that node replies (PMIX_GET_REFRESH_CACHE). Refused as BadParam where a process is none of its namespace, or of
-    /// one whose name begins with `pmix`, and where a key that is not reserved is asked of the caller itself or of no
-    /// particular rank; as UnknownNamespace; as NotMine where the caller is at home at another node; as Terminated; as Busy
-    /// where it is in a call; as NotFound where there is no value, and none is waited for; as OutsideScope where there is one
-    /// that its scope keeps from the process; as TooMany where it asks anew, and the node sent 18446744073709551615 requests; and as
-    /// NoMemory.
+    /// Asks for a key of the target (PMIx Standard 5.0, PMIx_Get): returns the value, or makes the process wait until there is an answer,
+    /// unless the mode is not to wait. A get that asks anew, of a process at home at another node, waits for the reply of that node
+    /// (PMIX_GET_REFRESH_CACHE). Errors: `BadParam` if a process is not in its registered namespace, or its namespace begins with `pmix`;
+    /// `BadParam` if the key is not reserved, and the target is the caller itself or has no particular rank; `UnknownNamespace`; `NotMine`
+    /// if the caller is at home at another node; `Terminated`; `Busy` if the caller is in a call; `NotFound` if there is no value, and the
+    /// get does not wait for one; `OutsideScope` if there is a value that its scope keeps from the process; `TooMany` if the get asks anew,
+    /// and the node has sent 18446744073709551615 requests; `NoMemory`.
     pub fn ask(
         &mut self,
         proc: &Proc,

@@ -1,4 +1,4 @@
-//! What comes of a piece of a process of another node.
+//! The effects of a piece of a process of another node.
 ghost use Rattle.std.specs.Prelude.{◌≡◌, nat_lt, true, IfOk};
 ghost use Rattle.pmg_commit.specs.Data.{absorbed, level_at};
 ghost use Rattle.pmg_frame.specs.declared.frame.Frame.TheVariants as frames;
@@ -15,7 +15,7 @@ use pmg_value::Proc;
 use std::alloc::AllocError;
 
 impl Server {
-    /// Whether the piece is of a process that is not at home at this node.
+    /// Returns whether the piece is of a process that is not at home at this node.
     #[tactic(auto, unfolding(pmg_node_model::specs::Acts::is_taken))]
     pub(crate) fn is_foreign(&self, piece: &Piece) -> bool
         ensures { result ≡ is_taken self.now.jobs self.now.id self.now.holding.table (frames.Piece piece.now) }
@@ -23,7 +23,7 @@ impl Server {
         self.is_known(piece.proc()) && !self.table.registry().is_home(self.id, piece.proc())
     }
 
-    /// What calls come to be answered once the piece is taken.
+    /// Returns the answers of the calls that the piece settles.
     pub(crate) fn answers_to<'a>(
         &'a self,
         piece: &'a Piece,
@@ -40,7 +40,7 @@ impl Server {
         answers_about(&self.table, self.id, &ahead, &self.calls, piece.proc())
     }
 
-    /// Whether more commits of the piece's process come to be known by it.
+    /// Returns whether the piece raises the known level of its process.
     fn rises_by(&self, piece: &Piece) -> bool
         ensures { result ≡ nat_lt (level_at self.now.holding.far piece.now.proc)
             (level_at (absorbed self.now.holding.far piece.now) piece.now.proc) }
@@ -49,8 +49,8 @@ impl Server {
         far.level(piece.proc()) < far.level_with(piece, piece.proc())
     }
 
-    /// What is due once the piece is taken: where more commits of its process come to be known, its home is asked again for
-    /// each get of its keys that will wait still; mostly none does, and then the levels are not looked at.
+    /// Returns the frames that are due after the piece is taken. If it raises the known level of its process, these are requests to the
+    /// process's home, for each get of its keys that still waits. Usually no get waits, and then the levels are not compared.
     pub(crate) fn asks_after<'a>(&'a self, piece: &'a Piece) -> Result<Vec<ToSend>, AllocError>
         requires { is_taken self.now.jobs self.now.id self.now.holding.table (frames.Piece piece.now) ≡ true }
         ensures { IfOk result (λ dues. dues.items ≡ due_by self.now.jobs self.now.id self.now.holding

@@ -1,4 +1,4 @@
-//! What a process sealed is joined into the stores of its node, and told to the nodes that wait for it.
+//! The publication of a process's commits: the node joins them into its stores, and sends them to the nodes that wait for them.
 ghost use Rattle.std.specs.Prelude.{◌≡◌, ◌<◌, ◌++◌, IfOk, OnOk, OnErr};
 ghost use Rattle.pmg_scope.specs.declared.scope.Reach.TheVariants as reach;
 ghost use Rattle.pmg_commit.specs.Data.{absorbed};
@@ -24,7 +24,7 @@ use std::alloc::AllocError;
 use std::collections::VecDeque;
 use std::slice;
 
-/// What stays as it is while an own process's commits are published.
+/// The parts of a node that the publication leaves unchanged.
 #[derive(Drop)]
 pub(crate) struct PublishContext<'a> {
     pub(crate) table: &'a Table,
@@ -34,18 +34,18 @@ pub(crate) struct PublishContext<'a> {
     pub(crate) calls: &'a Calls,
 }
 
-/// What comes of a process's commits.
+/// The result of the publication of a process's commits.
 #[derive(Drop)]
 pub(crate) struct Published {
-    /// What calls come to be answered.
+    /// The answers of the settled calls.
     pub(crate) answers: Vec<(Proc, Completion)>,
-    /// What was joined for reads from the node itself.
+    /// The piece joined for reads from the node itself.
     pub(crate) near: Piece,
-    /// What was joined for reads from other nodes.
+    /// The piece joined for reads from other nodes.
     pub(crate) far: Piece,
 }
 
-/// What comes to be answered once the process's pieces are joined.
+/// Returns the answers of the calls that the process's pieces settle.
 fn answers_after<'a>(
     beside: &PublishContext<'_>,
     board: &'a Board,
@@ -64,8 +64,8 @@ fn answers_after<'a>(
     answers_about(beside.table, beside.id, &ahead, beside.calls, proc)
 }
 
-/// What the process sealed after a commit number is joined into the stores, and sent to the nodes that wait for it; after that
-/// these are sent. What comes to be answered is told.
+/// Joins the process's commits after a number into the stores, and sends them to the nodes that wait for them, then the given frames.
+/// Returns the answers of the settled calls.
 pub(crate) fn publish(
     beside: &PublishContext<'_>,
     board: &mut Board,

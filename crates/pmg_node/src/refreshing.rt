@@ -1,4 +1,4 @@
-//! A process asks anew for a key of a process of another node.
+//! The request anew for a key of a process of another node.
 ghost use Rattle.std.specs.Prelude.{◌≡◌, ◌<◌, ◌++◌, suc, None, Ok, OnOk, OnErr};
 ghost use Rattle.std.specs.FinMap as finite;
 ghost use Rattle.pmg_value.specs.CheckOrder.{first_of};
@@ -20,7 +20,7 @@ use pmg_value::{Key, Proc, Refusal};
 use std::alloc::AllocError;
 use std::collections::VecDeque;
 
-/// The process's get waits for the reply to the node's next request, which is kept as its own. Where an allocation fails, nothing
+/// Makes the process's get wait for the reply to the node's next request, which is kept as the get's own. If an allocation fails, nothing
 /// changes.
 fn wait_anew(
     calls: &mut Calls,
@@ -49,7 +49,7 @@ fn wait_anew(
 }
 
 impl Server {
-    /// Whether the get is one that the home of its target, another node, is asked for anew.
+    /// Returns whether the get asks the home of its target anew, and this home is another node.
     fn asks_anew(&self, target: &Proc, key: &Key, mode: Mode) -> bool
         ensures { result ≡ asks_anew self.now.jobs self.now.id (get_of target.now key.now) mode }
     {
@@ -62,7 +62,7 @@ impl Server {
         }
     }
 
-    /// Judges whether there is a number for the request, where the get sends one.
+    /// Checks that a number is left for the request, if the get sends one.
     pub(crate) fn check_number(&self, target: &Proc, key: &Key, mode: Mode) -> Result<(), Refusal>
         ensures { result ≡ first_of (number_cause self.now.jobs self.now.id self.now.holding (get_of target.now key.now) mode) tt }
     {
@@ -72,7 +72,7 @@ impl Server {
         Ok(())
     }
 
-    /// The process's get asks the target's home anew, and waits for the reply.
+    /// Asks the target's home anew for the process's get, which waits for the reply.
     pub(crate) fn refresh(
         &mut self,
         proc: &Proc,

@@ -1,4 +1,4 @@
-//! What is replied to a node that asks anew for commits of a process, and what comes of such a reply.
+//! The reply to a node that asks anew for commits of a process, and the effects of such a reply.
 ghost use Rattle.std.specs.Prelude.{◌≡◌, ◌≤◌, true, IfOk, OnOk, OnErr};
 ghost use Rattle.std.specs.Option.{option_map};
 ghost use Rattle.pmg_commit.specs.Stamped.{IsSealer};
@@ -22,7 +22,7 @@ use pmg_store::Board;
 use pmg_value::Proc;
 use std::alloc::{AllocError, Global};
 
-/// What the process's commits after the one that is named sealed, be it none, as the reply.
+/// Returns the process's commits after the named one, possibly an empty piece, as the reply.
 fn reply_of(alloc: Global, own: &LocalCommits, ask: &RefreshAsk) -> Result<RefreshReply, AllocError>
     requires made { ask.now.ask.level ≤ (sealed_of own.now ask.now.ask.proc).level }
     requires its { (sealed_of own.now ask.now.ask.proc).proc ≡ ask.now.ask.proc }
@@ -42,7 +42,7 @@ fn reply_of(alloc: Global, own: &LocalCommits, ask: &RefreshAsk) -> Result<Refre
     Ok(RefreshReply::from_checked(node, ask.request(), proc.copy()?, level, level, entries))
 }
 
-/// The reply is due to the node that asks anew, unless it names a commit that was not made.
+/// Returns the reply, due to the node that asks anew, unless it names a commit that was not made.
 pub(crate) fn reply_due(
     alloc: Global,
     own: &LocalCommits,
@@ -61,7 +61,7 @@ pub(crate) fn reply_due(
     Ok(dues)
 }
 
-/// What a reply tells is joined into the store for reads from other nodes, if it tells something.
+/// Joins the piece in a reply, if there is one, into the store for reads from other nodes.
 pub(crate) fn absorb_told(board: &mut Board, told: Option<&Piece>) -> Result<(), AllocError>
     ensures far { OnOk result (board.new.far ≡ joined board.old.far (option_map (λ c. c.now) told.entry)) }
     ensures near { board.new.near ≡ board.old.near }
@@ -74,7 +74,7 @@ pub(crate) fn absorb_told(board: &mut Board, told: Option<&Piece>) -> Result<(),
 }
 
 impl Server {
-    /// Whether the reply is to a request of this node, for commits of a process that is not at home here.
+    /// Returns whether the reply is to a request of this node, for commits of a process that is not at home here.
     #[tactic(auto, unfolding(pmg_node_model::specs::Acts::is_taken))]
     pub(crate) fn is_replied(&self, reply: &RefreshReply) -> bool
         ensures { result ≡ is_taken self.now.jobs self.now.id self.now.holding.table (frames.RefreshReply reply.now) }
@@ -84,8 +84,8 @@ impl Server {
             && !self.table.registry().is_home(self.id, reply.proc())
     }
 
-    /// What calls come to be answered once the reply, which tells this, is taken: the get that asked for it, if it waits still, and
-    /// those that wait for its process.
+    /// Returns the answers of the calls that the reply, with this piece, settles: the get that asked for it, if it still waits, and the
+    /// calls that wait for its process.
     pub(crate) fn answers_by<'a>(
         &'a self,
         reply: &'a RefreshReply,
@@ -115,8 +115,8 @@ impl Server {
         )
     }
 
-    /// What is due once the reply, which tells this, is taken: where more commits of its process come to be known, its home is asked
-    /// again for each get of its keys that will wait still.
+    /// Returns the frames that are due after the reply, with this piece, is taken. If it raises the known level of its process, these are
+    /// requests to the process's home, for each get of its keys that still waits.
     pub(crate) fn asks_by<'a>(
         &'a self,
         reply: &'a RefreshReply,

@@ -1,4 +1,4 @@
-//! What an own process, or the one that stands for the group's host, seals next.
+//! The next commit of an own process, or of the process that represents the group's host.
 ghost use Rattle.std.specs.Prelude.{◌≡◌, ◌<◌, ◌++◌, Err, IfOk, OnOk, OnErr};
 ghost use Rattle.pmg_value.specs.Answers.{Gives};
 ghost use Rattle.pmg_value.specs.declared.refusal.Refusal.TheVariants as refusals;
@@ -24,25 +24,25 @@ use pmg_value::{Key, NodeId, Proc, Refusal};
 use std::alloc::AllocError;
 use std::collections::VecDeque;
 
-/// An act by which an own process, or the one that stands for the group's host, seals something.
+/// An act by which an own process, or the process that represents the group's host, makes a commit.
 #[derive(Drop)]
 pub(crate) enum SealingAct<'a> {
     /// The process commits the batch.
     Commit(&'a Proc, &'a Batch),
-    /// The set of that name is defined, whose members are those for whom the list stands.
+    /// The set of that name is defined, with the members that the list means.
     Define(&'a Key, &'a [Proc]),
     /// The set of that name is deleted.
     Delete(&'a Key),
 }
 
-/// The process that stands for the group's host.
+/// Returns the process that represents the group's host.
 fn host() -> Proc
     ensures { result ≡ host }
 {
     Proc::of_host()
 }
 
-/// Whose next commit it is: a change of the sets is one of the process that stands for the group's host.
+/// Returns the process that makes the commit: for a change of the sets this is the process that represents the group's host.
 fn sealer<'a>(act: &'a SealingAct<'_>, stand_in: &'a Proc) -> &'a Proc
     requires { stand_in.now ≡ host }
     ensures { result.now ≡ sealer_named act.now }
@@ -54,7 +54,7 @@ fn sealer<'a>(act: &'a SealingAct<'_>, stand_in: &'a Proc) -> &'a Proc
     }
 }
 
-/// The act's next commit is sealed; what there was before is told.
+/// Seals the act's next commit, and returns the earlier state.
 fn seal_next(
     own: &mut LocalCommits,
     table: &Table,
@@ -76,7 +76,7 @@ fn seal_next(
     }
 }
 
-/// What the act sealed last is taken back.
+/// Takes the act's last commit back.
 fn unseal(own: &mut LocalCommits, act: &SealingAct<'_>, before: SealerUndo)
     requires { CanUnseal own.old act.now before }
     ensures { own.new ≡ with_next own.old act.now (sealer_back (last_sealed own.old act.now) before) }
@@ -88,7 +88,7 @@ fn unseal(own: &mut LocalCommits, act: &SealingAct<'_>, before: SealerUndo)
     }
 }
 
-/// What is due after what nodes wait for: once the sets are changed, all changes, to each other node.
+/// Returns the frames that are due beside the waiting requests: after a change of the sets, all changes, to each other node.
 fn dues_besides(
     own: &LocalCommits,
     table: &Table,
@@ -106,7 +106,7 @@ fn dues_besides(
     }
 }
 
-/// The act's next commit is sealed: what there was before is told, and what is due beside what nodes wait for.
+/// Seals the act's next commit, and returns the earlier state, and the frames that are due beside the waiting requests.
 fn seal_due(
     own: &mut LocalCommits,
     table: &Table,
@@ -131,7 +131,7 @@ fn seal_due(
 }
 
 impl Server {
-    /// Judges the act, but for what only sealing it shows.
+    /// Checks the act, except for causes that only the sealing shows.
     fn check_sealing(&self, act: &SealingAct<'_>) -> Result<(), Refusal>
         ensures { result ≡ judged_before self.now.jobs self.now.id self.now.holding act.now }
     {
@@ -142,8 +142,8 @@ impl Server {
         }
     }
 
-    /// The act's next commit is sealed, joined into the node's stores, and told to the nodes that wait for it; a change of the sets
-    /// to all. Where an allocation fails, it is taken back.
+    /// Seals the act's next commit, joins it into the node's stores, and sends it to the nodes that wait for it; a change of the sets goes
+    /// to all nodes. If an allocation fails, the commit is taken back.
     pub(crate) fn seal(
         &mut self,
         act: &SealingAct<'_>,

@@ -10,8 +10,8 @@ use pmg_value::NodeId;
 use std::alloc::AllocError;
 use std::marker::Model;
 
-/// One server: what it knows of all processes, what its own sealed, which fences they are in, and what other nodes ask for
-/// (PMIx Standard 5.0, PMIx_server_init).
+/// One server: its knowledge of all processes, the sealers of its own processes, the fences that they are in, and the waiting requests of
+/// other nodes (PMIx Standard 5.0, PMIx_server_init).
 pub struct Server {
     pub(crate) id: NodeId,
     pub(crate) table: Table,
@@ -50,7 +50,7 @@ impl Model for Server {
 }
 
 impl Server {
-    /// The node's index.
+    /// Returns the node's index.
     pub fn id(&self) -> NodeId
         ensures value { result ≡ self.now.id }
         ensures node { is_node self.now.jobs result ≡ true }
@@ -58,14 +58,14 @@ impl Server {
         self.id
     }
 
-    /// The registry of the group.
+    /// Returns the registry of the group.
     pub fn registry(&self) -> &Registry
         ensures { result.now ≡ self.now.jobs }
     {
         self.table.registry()
     }
 
-    /// What the node knows of all processes: for reads from its own node, and from other nodes.
+    /// Returns the node's knowledge of all processes: for reads from its own node, and from other nodes.
     pub fn board(&self) -> &Board
         ensures near { result.now.near ≡ self.now.holding.near }
         ensures far { result.now.far ≡ self.now.holding.far }
@@ -73,7 +73,7 @@ impl Server {
         &self.board
     }
 
-    /// Returns a copy, which means the same. It keeps the registry's allocator.
+    /// Returns a copy with an equal meaning. It keeps the registry's allocator.
     pub fn copy(&self) -> Result<Server, AllocError>
         ensures { IfOk result (λ copy. copy ≡ self.now) }
     {

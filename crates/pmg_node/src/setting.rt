@@ -1,4 +1,4 @@
-//! The process sets are changed, at node 0.
+//! Changes of the process sets, at node 0.
 ghost use Rattle.std.specs.Prelude.{◌≡◌, ◌||◌, ◌==◌, ◌++◌, length, Err, IfOk};
 ghost use Rattle.std.specs.List.{list_any};
 ghost use Rattle.pmg_value.specs.CheckOrder.{first_of};
@@ -22,10 +22,10 @@ use pmg_pset::{MAX_MEMBERS, Sets};
 use pmg_value::{Key, Proc, Refusal};
 use std::collections::VecDeque;
 
-/// The bytes of an array of processes that stand before them: its tag, the tag of its items, and four of their number.
+/// The length of an array's start, before its processes: its tag, the tag of its items, and four bytes of their number.
 const ARRAY_START: usize = 6;
 
-/// Whether the name of a set that is defined is one of the standard's, or its list names nobody, or a process that no list may.
+/// Returns whether the name of a defined set is reserved, or its list is empty, or has a process that a list may not name.
 fn is_bad_definition(registry: &Registry, name: &Key, list: &[Proc]) -> bool
     ensures { result ≡ (is_reserved name.now || ((length list.now == 0)
         || list_any (λ q. is_reserved q.nspace || is_bad registry.now q) list.now)) }
@@ -33,7 +33,7 @@ fn is_bad_definition(registry: &Registry, name: &Key, list: &[Proc]) -> bool
     name.is_reserved() || list.is_empty() || has_bad(registry, list)
 }
 
-/// Judges whether there is room for a set of that name, whose members are those for whom the list stands.
+/// Checks that there is room for a set of that name, with the members that the list means.
 fn check_room(registry: &Registry, sets: &Sets, name: &Key, list: &[Proc]) -> Result<(), Refusal>
     ensures { result ≡ first_of (room_cause sets.now name.now (members_of registry.now list.now)) tt }
 {
@@ -45,7 +45,7 @@ fn check_room(registry: &Registry, sets: &Sets, name: &Key, list: &[Proc]) -> Re
 }
 
 impl Server {
-    /// Judges the name of a set, and that this is node 0.
+    /// Checks the name of a set, and that this is node 0.
     pub(crate) fn check_name(&self, name: &Key) -> Result<(), Refusal>
         ensures { result ≡ first_of (also (node_cause self.now.id) (name_cause name.now)) tt }
     {
@@ -58,7 +58,7 @@ impl Server {
         Ok(())
     }
 
-    /// Judges the definition of a set, whose members are those for whom the list stands. It takes no memory.
+    /// Checks the definition of a set, with the members that the list means. It takes no memory.
     pub(crate) fn check_definition(&self, name: &Key, list: &[Proc]) -> Result<(), Refusal>
         ensures { result ≡ first_of (cause self.now.jobs self.now.id self.now.holding (Act.request (Request.define name.now list.now))) tt }
     {
@@ -75,11 +75,11 @@ impl Server {
         check_room(registry, &self.own.sets, name, list)
     }
 
-    /// Defines the process set of that name, whose members are those for whom the list stands, and tells all nodes of it (PMIx
-    /// Standard 5.0, process sets). Refused as BadParam where the name begins with `pmix`, where the list is empty, and where a
-    /// process in it is none of its namespace, or of one whose name begins with `pmix`; as UnknownNamespace; as NotMine at other
-    /// nodes than 0; as Exists where there is a set of that name; as TooMany past 4,096 members, an array of them of 1,048,576
-    /// canonical bytes, 4,294,967,294 changes, and the limits of what a process seals; and as NoMemory.
+    /// Defines the process set of that name, with the members that the list means, and sends it to all nodes (PMIx Standard 5.0, process
+    /// sets). Errors: `BadParam` if the name begins with `pmix`, if the list is empty, or if a process in it is not in its registered
+    /// namespace, or is of a namespace that begins with `pmix`; `UnknownNamespace`; `NotMine` at nodes other than 0; `Exists` if there is a
+    /// set of that name; `TooMany` past 4,096 members, an array of them of 1,048,576 canonical bytes, 4,294,967,294 changes, and the limits
+    /// of a sealer; `NoMemory`.
     pub fn define_set(
         &mut self,
         name: &Key,
@@ -97,9 +97,9 @@ impl Server {
         self.seal(&SealingAct::Define(name, list), out)
     }
 
-    /// Deletes the process set of that name, which may then be defined again, and tells all nodes of it (PMIx Standard 5.0, process
-    /// sets). Refused as BadParam where the name begins with `pmix`; as NotMine at other nodes than 0; as NotFound where there is no
-    /// such set; as TooMany where the number of the change would be 4294967295; and as NoMemory.
+    /// Deletes the process set of that name, which may then be defined again, and sends the deletion to all nodes (PMIx Standard 5.0,
+    /// process sets). Errors: `BadParam` if the name begins with `pmix`; `NotMine` at nodes other than 0; `NotFound` if there is no such
+    /// set; `TooMany` if the number of the change would be 4294967295; `NoMemory`.
     pub fn delete_set(&mut self, name: &Key, out: &mut VecDeque<Sent>) -> Result<Committed, Refusal>
         ensures reply { Replies defined_reply result (reply_to self.old (Act.request (Request.delete name.now))) }
         ensures done { IsAnswered result → self.new ≡ after self.old (Act.request (Request.delete name.now)) }

@@ -1,4 +1,4 @@
-//! How a process stands, which is looked at and changes nothing.
+//! The status of a process; a query of it changes nothing.
 ghost use Rattle.std.specs.Prelude.{◌≡◌};
 ghost use Rattle.std.specs.Option.{option_map};
 ghost use Rattle.pmg_node_model.specs.Acts.{status_by, status_of};
@@ -10,26 +10,26 @@ use crate::server::Server;
 use pmg_node_parts::Call;
 use pmg_value::Proc;
 
-/// How a process stands at a node.
+/// The status of a process at a node.
 #[derive(Clone, Copy, PartialEq, Eq)]
 pub enum Status {
-    /// It is none of the processes at home at the node.
+    /// The process is not at home at the node.
     Stranger,
-    /// It is in no call.
+    /// The process is in no call.
     Idle,
-    /// It is in a fence, and not released.
+    /// The process is in a fence, and not released.
     InFence,
-    /// It is released from a fence, and has not left it.
+    /// The process is released from a fence, and has not left it.
     Released,
-    /// Its get waits.
+    /// The process's get waits.
     Parked,
-    /// Its get is answered, and it has not taken the answer.
+    /// The process's get is answered, and the process has not taken the answer.
     Answered,
-    /// It has ended.
+    /// The process has ended.
     Ended,
 }
 
-/// How the process of the call stands.
+/// Returns the status of the process of the call.
 fn status_by(call: Option<&Call>) -> Status
     ensures { status_in result ≡ status_by (option_map (λ c. standing_of c.now) call.entry) }
 {
@@ -45,7 +45,7 @@ fn status_by(call: Option<&Call>) -> Status
 }
 
 impl Server {
-    /// How the process stands. It takes no memory.
+    /// Returns the status of the process. It takes no memory.
     #[tactic(auto, unfolding(pmg_node_model::specs::Acts::status_of))]
     pub fn status(&self, proc: &Proc) -> Status
         ensures { status_in result ≡ status_of self.now.jobs self.now.id self.now.holding proc.now }

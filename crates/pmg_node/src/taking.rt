@@ -13,18 +13,18 @@ use crate::server::Server;
 use pmg_node_parts::{Call, Found};
 use pmg_value::{Proc, Refusal, Value};
 
-/// What a process that takes an answer is told (PMIx Standard 5.0, PMIx_Get).
+/// The answer to a process that takes an answer (PMIx Standard 5.0, PMIx_Get).
 #[derive(Drop)]
 pub enum Taking {
-    /// It waits for no get.
+    /// The process waits for no get.
     Idle,
-    /// Its get is not answered yet.
+    /// The process's get is not answered yet.
     Waiting,
     /// The value.
     Found(Value),
 }
 
-/// What the process of the call is told, unless its get is answered.
+/// Returns the answer to the process of the call, unless its get is answered.
 pub(crate) fn pending(call: Option<&Call>) -> Option<CallStand>
     ensures { option_map (told_at ends.Take) result ≡ pending_reply (option_map (λ c. standing_of c.now) call.entry) }
 {
@@ -39,7 +39,7 @@ pub(crate) fn pending(call: Option<&Call>) -> Option<CallStand>
     }
 }
 
-/// What the process is told whose get was answered so.
+/// Returns the answer to the process whose get has this outcome.
 fn to_taking(found: Found) -> Result<Taking, Refusal>
     ensures { reply_in taking_reply result ≡ reply_of (found_outcome found) }
 {
@@ -50,7 +50,7 @@ fn to_taking(found: Found) -> Result<Taking, Refusal>
     }
 }
 
-/// What the process is told, as its call stands.
+/// Returns the answer to the process, by the state of its call.
 fn taking_of(stand: CallStand) -> Result<Taking, Refusal>
     ensures { reply_in taking_reply result ≡ told_at ends.Take stand }
 {
@@ -65,11 +65,11 @@ fn taking_of(stand: CallStand) -> Result<Taking, Refusal>
 }
 
 impl Server {
-    /// The process takes the answer of the get that it waited for (PMIx Standard 5.0, PMIx_Get): the value; or NotFound; or
-    /// OutsideScope, where there is one that its scope keeps from the process. Until then it waits, and nothing changes; one
-    /// that waits for no get is idle. Refused as BadParam where the process is none of its namespace, or of one whose name
-    /// begins with `pmix`; as UnknownNamespace; as NotMine where it is at home at another node; as Terminated. Nothing is
-    /// sent, and no memory is taken.
+    /// Takes the answer of the get that the process waited for, and returns the value (PMIx Standard 5.0, PMIx_Get). Before there is an
+    /// answer the process waits, and nothing changes; a process that waits for no get is idle. Sends nothing, and takes no memory. Errors:
+    /// `NotFound`; `OutsideScope` if there is a value that its scope keeps from the process; `BadParam` if the process is not in its
+    /// registered namespace, or its namespace begins with `pmix`; `UnknownNamespace`; `NotMine` if it is at home at another node;
+    /// `Terminated`.
     pub fn take_answer(&mut self, proc: &Proc) -> Result<Taking, Refusal>
         ensures reply { reply_in taking_reply result ≡ reply_to self.old (Act.request (Request.take proc.now)) }
         ensures done { self.new ≡ after self.old (Act.request (Request.take proc.now)) }

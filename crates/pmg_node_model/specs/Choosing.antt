@@ -1,4 +1,4 @@
--- Which frames this program sends, and in which order.
+-- The frames that this program sends, and their order.
 use Rattle.std.specs.Prelude.{ℕ, Bool, false, ◌&&◌, ◌==◌, not, nat_lt, nat_le, List, [], ◌∷◌, ◌++◌, map, length, Option, Some, None, is_some, is_none, if◌then◌else◌}
 use Rattle.std.specs.FinMap as finite
 use Rattle.std.specs.FinSet as set
@@ -31,56 +31,56 @@ use Rattle.pmg_node_model.specs.declared.due.ToSend.{ToSend}
 use Rattle.pmg_node_model.specs.declared.due.ToSend.TheVariants as sendings
 use Rattle.pmg_node_model.specs.declared.sent.Sent.{Sent}
 
--- the nodes of the group but this one, rising
+-- the other nodes of the group, rising
 abbrev pub peers : Jobs → ℕ → List ℕ
 peers jobs id = filter (λ m. not (m == id)) (ranks (length jobs.nodes))
 
--- those of them that have a participant in the fence
+-- the other nodes that have a participant in the fence
 abbrev pub peers_in : Jobs → ℕ → FenceName → List ℕ
 peers_in jobs id f = filter (λ m. list_any (λ q. home_of jobs q == m) (participants_of f)) (peers jobs id)
 
--- one node is told a header of this node, and where the fence collects data, the commits of its own participants
+-- this node's header for one node, and, if the fence collects data, the commits of this node's own participants
 abbrev pub telling : Jobs → ℕ → Header → ℕ → List ToSend
 telling jobs id hd node =
     sendings.Whole (sent node (frames.Header hd)) ∷ (if hd.name.signature.collect then map (sendings.Rest node) (locals_of jobs hd.name id) else [])
 
--- each other node of the fence is told
+-- this node's header for each other node of the fence
 abbrev pub announcing : Jobs → ℕ → Header → List ToSend
 announcing jobs id hd = flat_map (telling jobs id hd) (peers_in jobs id hd.name)
 
--- the process's commits above a level go to the node
+-- the process's commits above a level, for the node
 abbrev pub piece_due : NodeState → Proc → ℕ → ℕ → ToSend
 piece_due h p node from = sendings.Whole (sent node (piece_from h p from))
 
--- the nodes that waited for the process's next commit are sent it
+-- the process's new commits, for the nodes that waited for its next commit
 abbrev pub settling : NodeState → NodeState → Proc → List ToSend
 settling old new p = map (λ e. piece_due new p e.0 e.1) (below (sealer_of new p).level (levels_of old.held p))
 
--- a node asks for commits: it is sent what there is
+-- the answer to a node that asks for commits: the existing ones above its level
 abbrev pub answering : NodeState → ℕ → Proc → ℕ → List ToSend
 answering new node p level = if nat_lt level (sealer_of new p).level then piece_due new p node level ∷ [] else []
 
--- a node asks anew: it is told what there is, unless it names a commit that was not made
+-- the reply to a node that asks anew, unless it names a commit that was not made
 abbrev pub replying : NodeState → RefreshAsk → List ToSend
 replying new a =
     if nat_le a.ask.level (sealer_of new a.ask.proc).level then sendings.Whole (sent a.ask.node (frames.RefreshReply (reply_anew new a))) ∷ [] else []
 
--- a node asks for a header: it is told, where the header was there; else each node is, where it comes to exist
+-- the answer to a node that asks for a header: the header to this node, if it existed; otherwise the frames that its new existence causes
 abbrev pub telling_of : Jobs → ℕ → ℕ → FenceName → Option (List Local) → List ToSend → List ToSend
 telling_of jobs id node f (Some locals) others = telling jobs id (header id f locals) node
 telling_of jobs id node f None others = others
 
--- the home of the process, where that is another node, is asked for its commits past the level that is known
+-- a request to the process's home, if this is another node, for its commits above the known level
 abbrev pub asking_home : Jobs → ℕ → NodeState → Proc → List ToSend
 asking_home jobs id h q =
     if home_of jobs q == id then [] else sendings.Whole (sent (home_of jobs q) (frames.DirectAsk (commit_ask id q (level_at h.far q)))) ∷ []
 
--- and anew, under the request's number
+-- a request anew to the process's home, if this is another node, under the request's number
 abbrev pub asking_anew : Jobs → ℕ → NodeState → Proc → ℕ → List ToSend
 asking_anew jobs id h q number =
     if home_of jobs q == id then [] else sendings.Whole (sent (home_of jobs q) (frames.RefreshAsk (ask_anew id h q number))) ∷ []
 
--- for a get that waits, the home of its target, where that is another node, is asked, be it anew
+-- the request for a get that waits, to the home of its target, if this is another node
 abbrev pub asking_for : Jobs → ℕ → NodeState → Option CallState → List ToSend
 asking_for jobs id h (Some (CallState.parked get)) = asking_home jobs id h get.target
 asking_for jobs id h (Some (CallState.refreshing get number)) = asking_anew jobs id h get.target number
@@ -91,17 +91,17 @@ abbrev pub is_parked_on : Proc → CallState → Bool
 is_parked_on q (CallState.parked get) = same_proc q get.target
 is_parked_on q _ = false
 
--- for each get that waits for the process's key, its home is asked
+-- one request to the process's home for each get that waits for the process's key
 abbrev pub asking_again : Jobs → ℕ → NodeState → Proc → List ToSend
 asking_again jobs id h q = flat_map (λ e. if is_parked_on q e.1 then asking_home jobs id h q else []) (finite.entries h.calls)
 
--- so they are where more is known of the process
+-- these requests, if the node knows more of the process than before
 abbrev pub asking_risen : Jobs → ℕ → NodeState → NodeState → Proc → List ToSend
 asking_risen jobs id old new q = if nat_lt (level_at old.far q) (level_at new.far q) then asking_again jobs id new q else []
 
--- ---- what is sent at a nudge
+-- ---- the frames of a nudge
 
--- the fence that the call is in, where it is not released
+-- the fence that the call is in, unless the fence released it
 abbrev pub waited : CallState → List FenceName
 waited (CallState.in_fence f) = f ∷ []
 waited _ = []
@@ -110,42 +110,42 @@ waited _ = []
 abbrev pub waited_in : NodeState → List FenceName
 waited_in h = in_order (set.from_list {R = name_cmp} (flat_map (λ e. waited e.1) (finite.entries h.calls)))
 
--- the other nodes whose header is missing are asked for it
+-- requests for the missing headers of the fence, to their nodes
 abbrev pub asking_headers : Jobs → ℕ → NodeState → FenceName → List ToSend
 asking_headers jobs id h f =
     map (λ m. sendings.Whole (sent m (frames.FenceAsk (fence_ask id f)))) (filter (λ m. is_none (header_at jobs id h.table f m)) (peers_in jobs id f))
 
--- what is told of a participant names commits past the level
+-- the entry of a participant, if known, names commits above the level
 abbrev pub is_behind : ℕ → Option Entry → Bool
 is_behind level None = false
 is_behind level (Some e) = nat_lt level e.level
 
--- of each participant of another node whose commits are missing that a header names, the home is asked for them
+-- requests for the missing commits that a header names, to the home of each participant of another node
 abbrev pub asking_ranges : Jobs → ℕ → NodeState → FenceName → List ToSend
 asking_ranges jobs id h f =
     map (λ q. sendings.Whole (sent (home_of jobs q) (frames.RangeAsk (commit_ask id q (level_at h.far q)))))
     (filter (λ q. not (home_of jobs q == id) && is_behind (level_at h.far q) (told_of jobs id h.table f q)) (participants_of f))
 
--- a fence's missing headers are asked for, and where it collects data, the missing commits that headers name
+-- requests for a fence's missing headers, and, if the fence collects data, for the missing commits that headers name
 abbrev pub asking_fence : Jobs → ℕ → NodeState → FenceName → List ToSend
 asking_fence jobs id h f = asking_headers jobs id h f ++ (if f.signature.collect then asking_ranges jobs id h f else [])
 
--- node 0 is asked for changes of the process sets
+-- a request to node 0 for changes of the process sets
 abbrev pub asking_sets : ℕ → NodeState → List ToSend
 asking_sets id h = if id == 0 then [] else sendings.Whole (sent 0 (frames.RangeAsk (commit_ask id host (level_at h.far host)))) ∷ []
 
--- what own processes wait for is asked for again, and so are changes of the process sets
+-- all requests for the progress of own processes, and the request for changes of the process sets
 abbrev pub nudging : Jobs → ℕ → NodeState → List ToSend
 nudging jobs id h =
     flat_map (asking_fence jobs id h) (waited_in h) ++ (flat_map (λ e. asking_for jobs id h (Some e.1)) (finite.entries h.calls) ++ asking_sets id h)
 
--- ---- what is due after each act
+-- ---- the frames that each act causes
 
--- the sets go whole to each other node, after what nodes waited for
+-- the whole sets for each other node, after the answers to the nodes that waited
 abbrev pub spreading : Jobs → ℕ → NodeState → NodeState → List ToSend
 spreading jobs id old new = settling old new host ++ map (λ m. piece_due new host m 0) (peers jobs id)
 
--- what is due once the request took the node from old to new
+-- the frames that are due after the request took the node from old to new
 unfoldable pub due_by_request : Jobs → ℕ → NodeState → Request → NodeState → List ToSend
 due_by_request jobs id old (Request.enter p list collect) new =
     flat_map (announcing jobs id) (news jobs id old.table new.table (next_name old.table (signature_of jobs p list collect) p))
@@ -158,7 +158,7 @@ due_by_request jobs id old (Request.define name list) new = spreading jobs id ol
 due_by_request jobs id old (Request.delete name) new = spreading jobs id old new
 due_by_request jobs id old Request.nudge new = nudging jobs id new
 
--- what is due once the frame took the node from old to new
+-- the frames that are due after the frame took the node from old to new
 unfoldable pub due_by_frame : Jobs → ℕ → NodeState → Frame → NodeState → List ToSend
 due_by_frame jobs id old (frames.Piece c) new = asking_risen jobs id old new c.proc
 due_by_frame jobs id old (frames.Header hd) new = flat_map (announcing jobs id) (news jobs id old.table new.table hd.name)
@@ -169,23 +169,23 @@ due_by_frame jobs id old (frames.DirectAsk a) new = answering new a.node a.proc 
 due_by_frame jobs id old (frames.RefreshAsk a) new = replying new a
 due_by_frame jobs id old (frames.RefreshReply r) new = asking_risen jobs id old new r.told.proc
 
--- what is due once the act took the node from old to new
+-- the frames that are due after the act took the node from old to new
 unfoldable pub due_by : Jobs → ℕ → NodeState → Act → NodeState → List ToSend
 due_by jobs id old (Act.request r) new = due_by_request jobs id old r new
 due_by jobs id old (Act.commit p b) new = settling old new p
 due_by jobs id old (Act.deliver frame) new = due_by_frame jobs id old frame new
 
--- ---- marks: to which level each node was sent an own process's commits, or said that it knows them
+-- ---- marks: the level up to which each node was sent an own process's commits, or said that it knows them
 
--- the mark of the process at the node, 0 where there is none
+-- the mark of the process at the node, 0 without one
 abbrev pub mark_of : Levels → ℕ → Proc → ℕ
 mark_of marks node p = unwrap_or (mark_at marks p node) 0
 
--- a node's mark for the process is set to the level, where it has one: each process whose commits are sent has one at each other node
+-- sets a node's mark for the process to the level, if it has one; each process whose commits are sent has a mark at each other node
 abbrev pub with_mark : Levels → Proc → ℕ → ℕ → Levels
 with_mark marks p node level = if is_some (mark_at marks p node) then with_level marks p node level else marks
 
--- a piece that is sent, and a reply, sets its receiver's mark to its end
+-- a sent piece or reply sets its receiver's mark to the last commit in it
 abbrev pub marked_by : Levels → ℕ → Frame → Levels
 marked_by marks to (frames.Piece c) = with_mark marks c.proc to c.to
 marked_by marks to (frames.Header hd) = marks
@@ -195,48 +195,48 @@ marked_by marks to (frames.DirectAsk a) = marks
 marked_by marks to (frames.RefreshAsk a) = marks
 marked_by marks to (frames.RefreshReply r) = with_mark marks r.told.proc to r.told.to
 
--- the marks, once the frame is sent
+-- the marks after the frame is sent
 abbrev pub marked : Levels → Sent → Levels
 marked marks s = marked_by marks s.to s.frame
 
--- a node that asks for commits says what it knows
+-- the marks after a node asks for commits, because its request says its level
 abbrev pub asked_marks : Levels → Option CommitAsk → Levels
 asked_marks marks None = marks
 asked_marks marks (Some a) = with_mark marks a.proc a.node a.level
 
--- the commits that an act asks an own process's home for, be it anew
+-- the commits for which an act asks an own process's home, also anew
 abbrev pub named_by : Act → Option CommitAsk
 named_by (Act.deliver (frames.RefreshAsk a)) = Some a.ask
 named_by a = asked_by a
 
--- the marks, once the act came: where it asks for commits, it says what its node knows
+-- the marks after the act arrives: a request for commits says the level that its node knows
 unfoldable pub marked_by_act : Levels → Act → Levels
 marked_by_act marks a = asked_marks marks (named_by a)
 
--- what goes out, and the marks then
+-- the frames that go out, and the marks after them
 pub record Out : Type 0 where
   pub frames : List Sent
   pub marks : Levels
 
--- the frame that is sent for what is due, if any, where this is what each process sealed: what a node has already is not sent
+-- the frame for a due item, given the sealed state of each process; `None` if the node already has the commits
 abbrev pub frame_for : (Proc → Sealed) → Levels → ToSend → Option Sent
 frame_for sealer marks (sendings.Whole s) = Some s
 frame_for sealer marks (sendings.Rest node p) =
     if nat_lt (mark_of marks node p) (sealer p).level then Some (sent node (frames.Piece (piece_at (sealer p) (mark_of marks node p) reach.Far))) else None
 
--- the marks, once the frame is sent, if there is one
+-- the marks after the frame is sent, if there is one
 abbrev pub marked_if : Levels → Option Sent → Levels
 marked_if marks None = marks
 marked_if marks (Some s) = marked marks s
 
--- what goes out, one after the other
+-- sends the due items one after the other
 unfoldable pub sends : (Proc → Sealed) → Levels → List ToSend → Out
 sends sealer marks [] = record { frames = []; marks = marks }
 sends sealer marks (d ∷ ds) =
     let out = sends sealer (marked_if marks (frame_for sealer marks d)) ds in
     record { frames = option_to_list (frame_for sealer marks d) ++ out.frames; marks = out.marks }
 
--- What an act sends, and the marks then: nothing where it is refused or ignored.
+-- The frames that an act sends, and the marks after them. A refused or ignored act sends nothing.
 unfoldable pub chosen : Jobs → ℕ → NodeState → Levels → Act → Out
 chosen jobs id old marks a =
     if is_quiet (acts jobs id old a).reply then record { frames = []; marks = marks }

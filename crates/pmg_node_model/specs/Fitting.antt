@@ -1,4 +1,4 @@
--- What a node holds fits the scripts of all processes.
+-- The state of a node refines the scripts of all processes.
 use Rattle.std.specs.Prelude.{◌≡◌, ℕ, Bool, true, false, List, [], ◌∷◌, ◌++◌, Option, Some, None, if◌then◌else◌}
 use Rattle.std.specs.Option.{option_map}
 use Rattle.pmg_value.specs.Signatures.{Signature, FenceName}
@@ -21,9 +21,9 @@ use Rattle.pmg_store.specs.HonestData.{IsHonestData}
 use Rattle.pmg_node_model.specs.Acts.{Act, Reply, Said}
 use Rattle.pmg_node_model.specs.Holdings.{CallState, NodeState, sealer_of, call_of}
 
--- ---- what is said
+-- ---- the calls of a process
 
--- the scripts, with the calls that a process made added to its own
+-- the scripts, with the calls that a process made appended to its own
 abbrev pub with_said : Scripts → Option Said → Scripts
 with_said scripts None = scripts
 with_said scripts (Some said) = λ q. if same_proc q said.proc then scripts q ++ said.calls else scripts q
@@ -33,13 +33,13 @@ abbrev pub is_refusal : Reply → Bool
 is_refusal (Reply.refused e) = true
 is_refusal _ = false
 
--- a refused call is no call
+-- a refused call leaves the scripts unchanged
 abbrev pub unless_refused : Bool → Scripts → Option Said → Scripts
 unless_refused refused scripts said = if refused then scripts else with_said scripts said
 
 -- ---- the fence that a process is in
 
--- the signature that was entered later, where there is one, else the earlier
+-- the later signature, if there is one, else the earlier
 abbrev pub later_signature : Signature → Option Signature → Option Signature
 later_signature g None = Some g
 later_signature g (Some h) = Some h
@@ -56,10 +56,10 @@ last_signature (Call.terminate ∷ cs) = None
 abbrev pub last_fence : Script → Option FenceName
 last_fence s = option_map (λ g. fence_of g (enters s g)) (last_signature s)
 
--- ---- what fits
+-- ---- refinement
 
--- What is held of an own process fits its script: what it sealed; and of it there is known, for reads from its own node and
--- from other nodes, all that it sealed.
+-- The state of an own process refines its script. The sealer agrees with the script, and the node knows all its commits, for reads from the
+-- process's own node and from other nodes.
 pub record FitsOwn (s : Script) (p : Proc) (z : Sealed) (near far : Data) : Type 0 where
   pub sealer : FitsSealer z s
   pub proc : z.proc ≡ p
@@ -74,11 +74,11 @@ IsAnswerOutcome Outcome.absent = Unit {0}
 IsAnswerOutcome Outcome.outside = Unit {0}
 IsAnswerOutcome Outcome.parks = ⊥
 
--- the fence is the one that the process entered last, and the process has not ended
+-- the fence is the last one that the process entered, and the process has not ended
 abbrev pub IsIn : Script → FenceName → Type 0
 IsIn s f = (last_fence s ≡ Some f) × (has_end s ≡ false)
 
--- the call that an own process is in fits its script
+-- the call of an own process fits its script
 abbrev pub FitsCall : Script → Option CallState → Type 0
 FitsCall s None = Unit {0}
 FitsCall s (Some (CallState.in_fence f)) = IsIn s f
@@ -88,15 +88,15 @@ FitsCall s (Some (CallState.answered get outcome)) = IsAnswerOutcome outcome
 FitsCall s (Some (CallState.refreshing get number)) = Unit {0}
 FitsCall s (Some (CallState.refreshed get outcome)) = IsAnswerOutcome outcome
 
--- What a node holds fits the scripts: of each process at home there, what it sealed and the call that it is in; what is kept of
--- fences; and what is known of any process are contributions of its own.
+-- The state of a node refines the scripts. Each process at home there fits its script, with its sealed state and its call. The table of
+-- fences fits the scripts, and all knowledge of any process is contributions of its script.
 pub record Fits (jobs : Jobs) (scripts : Scripts) (node : ℕ) (h : NodeState) : Type 0 where
   pub own : (p : Proc) → home_of jobs p ≡ node → FitsOwn (scripts p) p (sealer_of h p) h.near h.far
   pub calls : (p : Proc) → home_of jobs p ≡ node → FitsCall (scripts p) (call_of h p)
   pub table : FitsTable jobs node scripts h.table
   pub far : (q : Proc) → IsHonestData (scripts q) reach.Far q h.far
 
--- a frame tells nothing but what the scripts tell
+-- the content of a frame agrees with the scripts
 abbrev pub HonestFrame : Jobs → Scripts → Frame → Type 0
 HonestFrame jobs scripts (frames.Piece c) = IsHonest (scripts c.proc) reach.Far c
 HonestFrame jobs scripts (frames.Header hd) = header_of jobs scripts hd.name hd.node ≡ Some hd.locals
@@ -106,11 +106,11 @@ HonestFrame jobs scripts (frames.DirectAsk a) = Unit {0}
 HonestFrame jobs scripts (frames.RefreshAsk a) = Unit {0}
 HonestFrame jobs scripts (frames.RefreshReply r) = IsHonest (scripts r.told.proc) reach.Far r.told
 
--- the process that stands for the group's host makes changes of the sets, and nothing else
+-- the script of the process that represents the group's host has only changes of the sets
 abbrev pub FitsHost : Script → Type 0
 FitsHost s = (cs : List Change) × (s ≡ script_of cs)
 
--- what is asked of an act: a commit has the puts that were not sealed, and a frame is honest
+-- the assumption about an act: a commit has the unsealed puts of the script, and a frame is honest
 abbrev pub FitsAct : Jobs → Scripts → Act → Type 0
 FitsAct jobs scripts (Act.request r) = Unit {0}
 FitsAct jobs scripts (Act.commit p b) = has_end (scripts p) ≡ false → FitsBatch b (scripts p)

@@ -1,4 +1,4 @@
--- What a node holds.
+-- The state of a node.
 use Rattle.std.specs.Prelude.{ℕ, Bool, true, false, ◌==◌, ◌&&◌, List, map, Option, Some, None, is_some, if◌then◌else◌}
 use Rattle.std.specs.FinMap as finite
 use Rattle.std.specs.Option.{option_map, unwrap_or}
@@ -30,9 +30,9 @@ pub record Get : Type 0 where
   pub target : Proc
   pub key : List ℕ
 
--- The call that an own process is in: it is in a fence; it is released from one, with those who are gone, until it leaves; its
--- get waits; its get is answered, until it takes the answer; its get waits for the reply to the node's request of that number; or
--- that came, and its get is answered so, until it takes the answer (PMIx Standard 5.0, PMIx_Fence, PMIx_Get, PMIX_GET_REFRESH_CACHE).
+-- The call of an own process (PMIx Standard 5.0, PMIx_Fence, PMIx_Get, PMIX_GET_REFRESH_CACHE). The process waits in a fence. Or the fence
+-- released it, with the gone participants, until it leaves. Its get waits. Or its get has an answer, until it takes the answer. Its get
+-- waits for the reply to the node's request of that number. Or this reply came and gave an answer, until the process takes the answer.
 pub data CallState : Type 0 where
   in_fence : FenceName → CallState
   released : FenceName → List Proc → CallState
@@ -41,9 +41,9 @@ pub data CallState : Type 0 where
   refreshing : Get → ℕ → CallState
   refreshed : Get → Outcome → CallState
 
--- What a node holds: what it knows of all processes, for reads from its own node and from other nodes; what its own processes
--- sealed, and the process sets; what it knows of fences; the calls that its own processes are in; the nodes that wait for a
--- process's next commit, each with the level that it knows; and the number of the last request for a get that asks anew.
+-- The state of a node: its knowledge of all processes, for reads from their own node and from other nodes. The sealed state of its own
+-- processes, and the process sets. Its table of fences, and the calls of its own processes. Also the nodes that wait for a process's next
+-- commit, each with its known level; and the number of the last request of a get that asks anew.
 pub record NodeState : Type 0 where
   pub near : Data
   pub far : Data
@@ -54,7 +54,7 @@ pub record NodeState : Type 0 where
   pub held : Levels
   pub requests : ℕ
 
--- a new node's: its own processes made no commit
+-- the state of a new node, whose own processes made no commit
 abbrev pub new_holding : Jobs → ℕ → NodeState
 new_holding jobs id = record {
   near = finite.empty;
@@ -67,15 +67,15 @@ new_holding jobs id = record {
   requests = 0;
 }
 
--- what the process sealed: the sets, where it stands for the group's host
+-- the sealed state of the process: the sets, if it represents the group's host
 unfoldable pub sealer_in : Sealed → finite.FinMap proc_cmp Sealed → Proc → Sealed
 sealer_in sets sealers p = if is_host p then sets else unwrap_or (finite.get sealers p) (fresh p)
 
--- what the process sealed, as the node holds it
+-- the sealed state of the process in the node's state
 abbrev pub sealer_of : NodeState → Proc → Sealed
 sealer_of h p = sealer_in h.sets h.sealers p
 
--- the call that it is in
+-- the call of the process
 abbrev pub call_of : NodeState → Proc → Option CallState
 call_of h p = finite.get h.calls p
 
@@ -83,42 +83,42 @@ call_of h p = finite.get h.calls p
 abbrev pub is_ready_at : Jobs → ℕ → NodeState → FenceName → Bool
 is_ready_at jobs id h f = is_ready jobs id h.table f (level_at h.far)
 
--- what there is to be seen of another process's key that is not reserved at the node, where these are the reads
+-- the view of another process's key at the node, for a key that is not reserved, given the reads
 abbrev pub plain_seen : Jobs → ℕ → (List ℕ → Option (List ℕ)) → (List ℕ → Option (List ℕ)) → Get → Seen
 plain_seen jobs id nears fars get =
     if home_of jobs get.target == id then Seen.local (nears get.key) (fars get.key) (is_some (nears term_key)) else Seen.remote (fars get.key) (is_some (fars term_key))
 
--- what there is to be seen of any key of another process
+-- the view of any key of another process
 unfoldable pub seen_of : Jobs → ℕ → (List ℕ → Option (List ℕ)) → (List ℕ → Option (List ℕ)) → Get → Seen
 seen_of jobs id nears fars get =
     if is_reserved get.key then Seen.reserved (option_map spelling (reserved_value jobs id get.target get.key)) else plain_seen jobs id nears fars get
 
--- what a get is answered
+-- the outcome of a get
 abbrev pub answer_in : Jobs → ℕ → NodeState → Get → Mode → Outcome
 answer_in jobs id h get mode = resolve (seen_of jobs id (read_at h.near get.target) (read_at h.far get.target) get) mode
 
--- what is known, once the contribution is joined, if there is one
+-- the knowledge after the join with the contribution, if there is one
 abbrev pub joined : Data → Option Contribution → Data
 joined d None = d
 joined d (Some c) = absorbed d c
 
--- ---- changes of a holding
+-- ---- updates of the state
 abbrev pub with_far : NodeState → Data → NodeState
 with_far h far = record { near = h.near; far = far; sealers = h.sealers; sets = h.sets; table = h.table; calls = h.calls; held = h.held; requests = h.requests }
 
--- what is known of fences is now this
+-- the state with this table of fences
 abbrev pub with_table : NodeState → Fences → NodeState
 with_table h table = record { near = h.near; far = h.far; sealers = h.sealers; sets = h.sets; table = table; calls = h.calls; held = h.held; requests = h.requests }
 
--- the calls that own processes are in are now these
+-- the state with these calls of own processes
 abbrev pub with_calls : NodeState → finite.FinMap proc_cmp CallState → NodeState
 with_calls h calls = record { near = h.near; far = h.far; sealers = h.sealers; sets = h.sets; table = h.table; calls = calls; held = h.held; requests = h.requests }
 
--- the nodes that wait for a process's next commit are now these
+-- the state with these nodes that wait for a process's next commit
 abbrev pub with_held : NodeState → Levels → NodeState
 with_held h held = record { near = h.near; far = h.far; sealers = h.sealers; sets = h.sets; table = h.table; calls = h.calls; held = held; requests = h.requests }
 
--- so many requests were made
+-- the state with this number of requests
 abbrev pub with_requests : NodeState → ℕ → NodeState
 with_requests h requests = record { near = h.near; far = h.far; sealers = h.sealers; sets = h.sets; table = h.table; calls = h.calls; held = h.held; requests = requests }
 
@@ -130,16 +130,16 @@ called h p standing = with_calls h (finite.insert h.calls p standing)
 abbrev pub uncalled : NodeState → Proc → NodeState
 uncalled h p = with_calls h (finite.remove h.calls p)
 
--- what an own process sealed is now this
+-- the sealers with this sealed state of an own process
 abbrev pub sealers_with : NodeState → Proc → Sealed → finite.FinMap proc_cmp Sealed
 sealers_with h p z = if is_host p then h.sealers else finite.insert h.sealers p z
 
--- the sets are now these, where the process stands for the group's host
+-- these are the sets now, if the process represents the group's host
 abbrev pub sets_with : NodeState → Proc → Sealed → Sealed
 sets_with h p z = if is_host p then z else h.sets
 
--- The next commit of an own process, or a change of the sets: what it sealed is now this, it is joined into both stores, and the
--- requests for it no longer wait.
+-- The next commit of an own process, or a change of the sets. The new sealed state replaces the old one, both stores join the new commit,
+-- and the requests for it no longer wait.
 abbrev pub sealing : NodeState → Proc → Sealed → NodeState
 sealing h p z = record {
   near = absorbed h.near (piece_at z (sealer_of h p).level reach.Near);
@@ -152,25 +152,25 @@ sealing h p z = record {
   requests = h.requests;
 }
 
--- a node waits for the process's next commit: the least level counts
+-- a node waits for the process's next commit; the least level that it named counts
 abbrev pub holding_ask : NodeState → ℕ → Proc → ℕ → NodeState
 holding_ask h node p level = with_held h (with_level h.held p node (least (held_at h.held p node) level))
 
--- ---- what comes to be answered
+-- ---- calls that can be settled
 
--- a get that waits is answered once there is something to answer
+-- a get that waits is answered as soon as its outcome is not `parks`
 abbrev pub settled_by : Get → Outcome → CallState
 settled_by get Outcome.parks = CallState.parked get
 settled_by get (Outcome.found value) = CallState.answered get (Outcome.found value)
 settled_by get Outcome.absent = CallState.answered get Outcome.absent
 settled_by get Outcome.outside = CallState.answered get Outcome.outside
 
--- a process in a fence is released, with the gone, once the fence is ready
+-- a process in a fence is released, with the gone participants, as soon as the fence is ready
 abbrev pub released_by : Bool → FenceName → List Proc → CallState
 released_by true f gone = CallState.released f gone
 released_by false f gone = CallState.in_fence f
 
--- the call, once its process is released or its get answered, where that can be
+-- the call after its process is released or its get is answered, if this is possible
 abbrev pub settle : Jobs → ℕ → NodeState → CallState → CallState
 settle jobs id h (CallState.in_fence f) = released_by (is_ready_at jobs id h f) f (gone_by jobs id h.table f)
 settle jobs id h (CallState.released f gone) = CallState.released f gone
@@ -179,26 +179,26 @@ settle jobs id h (CallState.answered get outcome) = CallState.answered get outco
 settle jobs id h (CallState.refreshing get number) = CallState.refreshing get number
 settle jobs id h (CallState.refreshed get outcome) = CallState.refreshed get outcome
 
--- the same keys, each with what f makes of its value
+-- applies f to the value of each key
 unfoldable pub mapped : (CallState → CallState) → finite.FinMap proc_cmp CallState → finite.FinMap proc_cmp CallState
 mapped f m = rows_of f (finite.entries m)
 
--- whoever can be released is, and each get is answered that can be
+-- releases each process that can be released, and answers each get that can be answered
 abbrev pub settled : Jobs → ℕ → NodeState → NodeState
 settled jobs id h = with_calls h (mapped (settle jobs id h) h.calls)
 
 -- ---- replies to gets that ask anew
 
--- the get, which waits for the reply to a request, waits for the one of that number and process
+-- the get, which waits for the reply to the request `waits_for`, waits for the request of this number about this process
 abbrev pub is_replied : ℕ → Proc → Get → ℕ → Bool
 is_replied number q get waits_for = (waits_for == number) && same_proc get.target q
 
--- once the reply is there, the get that waits for it is answered with what the node holds
+-- a reply answers the get that waits for it, from the node's state
 abbrev pub answer_reply : Jobs → ℕ → NodeState → ℕ → Proc → CallState → CallState
 answer_reply jobs id h number q (CallState.refreshing get waits_for) =
     if is_replied number q get waits_for then CallState.refreshed get (answer_in jobs id h get modes.Now) else CallState.refreshing get waits_for
 answer_reply jobs id h number q standing = standing
 
--- once the reply to the request of that number is there, which is of the process
+-- the state after the reply to the request of that number, which is about the process
 abbrev pub with_reply : Jobs → ℕ → NodeState → ℕ → Proc → NodeState
 with_reply jobs id h number q = with_calls h (mapped (answer_reply jobs id h number q) h.calls)

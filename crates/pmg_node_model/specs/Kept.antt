@@ -1,4 +1,4 @@
--- What a node's content keeps, whatever is done.
+-- The invariant of a node's state.
 use Rattle.std.specs.Prelude.{◌≡◌, ℕ, ◌≤◌, Bool, true, false, List, Some, if◌then◌else◌}
 use Rattle.std.specs.FinMap as finite
 use Rattle.std.specs.FinSet as set
@@ -16,7 +16,7 @@ use Rattle.pmg_get.specs.declared.view.Mode.TheVariants as modes
 use Rattle.pmg_node_model.specs.Acts.{Act, is_peer, is_concerned, acts}
 use Rattle.pmg_node_model.specs.Holdings.{Get, CallState, NodeState, new_holding, sealer_of, call_of, is_ready_at, answer_in, mapped, settle, settled, with_calls}
 
--- Whoever is in a fence is in one that is not ready, and a get waits only while there is nothing to answer.
+-- A process in a fence is in a fence that is not ready, and a get waits only while it has no answer.
 pub record IsSettled (jobs : Jobs) (id : ℕ) (h : NodeState) : Type 0 where
   pub fences : (p : Proc) (f : FenceName) → call_of h p ≡ Some (CallState.in_fence f) → is_ready_at jobs id h f ≡ false
   pub gets : (p : Proc) (get : Get) → call_of h p ≡ Some (CallState.parked get) → answer_in jobs id h get modes.Wait ≡ Outcome.parks
@@ -25,19 +25,19 @@ pub record IsSettled (jobs : Jobs) (id : ℕ) (h : NodeState) : Type 0 where
 abbrev pub IsOwn : Jobs → ℕ → Proc → Type 0
 IsOwn jobs id p = (is_member jobs p ≡ true) × (home_of jobs p ≡ id)
 
--- the greatest instance of the signature that the node learned or entered, 0 with none
+-- the greatest instance of the signature that the node learned or entered, 0 without one
 abbrev pub top_in : Fences → Signature → ℕ
 top_in t g = (series_at t g).top
 
--- of each signature the table has no name but those of the greatest instance and of the one before it
+-- of each signature the table has at most two names: the greatest instance, and the one before it
 abbrev pub HasTwo : Fences → Type 0
 HasTwo t = (f : FenceName) → has_name t f ≡ true → (is_old t f ≡ false) × (f.instance ≤ top_in t f.signature)
 
--- What a content is made of, without any script: what is kept as sealed by a process is its own; who is in a call is a process
--- of the group, at home at the node; a get waits for a key of a process of the group, one that asks anew under a number that was
--- given; who waits for a process's next commit is another node, the process is at home at this one, and its commits are all known
--- there; each fence whose name is there is one of processes of the group, some of them at home at the node; of each signature no
--- more than two are there; and who is in a fence takes part in it, and its name is there unless it is old.
+-- The invariant of a node's state that needs no script. Each sealer is of its own process. Each caller is a process of the group, at home
+-- at the node. A get waits for a key of a process of the group, and a get that asks anew has a number that was given. A node that waits for
+-- a process's next commit is another node, and the process is at home at this one. The waiting node's level covers all existing commits.
+-- Each fence in the table has only participants of the group, some at home at the node. Each signature has at most two names. A process in
+-- a fence takes part in it, and the fence's name is in the table unless it is old.
 pub record Holds (jobs : Jobs) (id : ℕ) (h : NodeState) : Type 0 where
   pub sealers : (p : Proc) → (sealer_of h p).proc ≡ p
   pub callers : (p : Proc) (standing : CallState) → call_of h p ≡ Some standing → IsOwn jobs id p
@@ -52,30 +52,30 @@ pub record Holds (jobs : Jobs) (id : ℕ) (h : NodeState) : Type 0 where
   pub there : (p : Proc) (f : FenceName) → call_of h p ≡ Some (CallState.in_fence f) → is_old h.table f ≡ false → has_name h.table f ≡ true
   pub parts : (p : Proc) (f : FenceName) → call_of h p ≡ Some (CallState.in_fence f) → set.contains f.signature.participants p ≡ true
 
--- What its table tells of own processes: who entered a fence entered so many of its signature at least, and who is told to have
--- ended did.
+-- The table counts own processes correctly. A process with an entry in the k-th fence of a signature entered at least k of them. A process
+-- with a recorded end has ended.
 pub record IsCounted (h : NodeState) : Type 0 where
   pub entered : (f : FenceName) (p : Proc) (level : ℕ) → finite.get (fence_at h.table f).levels p ≡ Some level → f.instance ≤ count_of h.table f.signature p
   pub ended : (p : Proc) (level : ℕ) → finite.get h.table.ends p ≡ Some level → (sealer_of h p).ended ≡ true
 
--- each get that is answered has an answer
+-- each answered get has an answer
 abbrev pub AreAnswered : Jobs → ℕ → NodeState → Type 0
 AreAnswered jobs node h =
     (p : Proc) (get : Get) (outcome : Outcome) → call_of h p ≡ Some (CallState.answered get outcome) → answer_in jobs node h get modes.Wait ≡ Outcome.parks → ⊥
 
--- whoever is in a fence is in one that is not ready
+-- each process in a fence is in a fence that is not ready
 abbrev pub AreUnready : Jobs → ℕ → NodeState → Type 0
 AreUnready jobs node h = (p : Proc) (f : FenceName) → call_of h p ≡ Some (CallState.in_fence f) → is_ready_at jobs node h f ≡ false
 
--- whoever is released is so from a fence that is ready, while it is not old, with the gone that its headers tell; and whoever waits
--- does so in one that is not ready
+-- A process that is released from a fence that is not old is released from a ready fence, with the gone participants of its headers. A
+-- process waits only in a fence that is not ready.
 pub record ReleasedRight (jobs : Jobs) (node : ℕ) (h : NodeState) : Type 0 where
   pub released : (p : Proc) (f : FenceName) (gone : List Proc) → call_of h p ≡ Some (CallState.released f gone) → is_old h.table f ≡ false
       → (is_ready_at jobs node h f ≡ true) × (gone ≡ gone_by jobs node h.table f)
   pub waits : AreUnready jobs node h
 
--- What a node holds, whatever frames came to it: a process in a fence that is not old is released exactly where the fence is ready,
--- and a get waits exactly where it has no answer.
+-- The invariant of a node's state, for any received frames. A process in a fence that is not old is released exactly if the fence is ready.
+-- A get waits exactly if it has no answer.
 pub record IsServer (jobs : Jobs) (id : ℕ) (h : NodeState) : Type 0 where
   pub settled : IsSettled jobs id h
   pub holds : Holds jobs id h
@@ -83,21 +83,21 @@ pub record IsServer (jobs : Jobs) (id : ℕ) (h : NodeState) : Type 0 where
   pub released : ReleasedRight jobs id h
   pub answered : AreAnswered jobs id h
 
--- a new node holds that
+-- a new node satisfies the invariant
 abbrev pub NewIsServer : Type 0
 NewIsServer = (jobs : Jobs) (id : ℕ) → IsServer jobs id (new_holding jobs id)
 
--- and so it does after each act
+-- each act preserves the invariant
 abbrev pub ServerStays : Type 0
 ServerStays = (jobs : Jobs) (id : ℕ) (h : NodeState) (a : Act) → IsServer jobs id h → IsServer jobs id (acts jobs id h a).left
 
--- to settle what is settled changes nothing
+-- settling is the identity on a settled state
 abbrev pub SettledSame : Type 0
 SettledSame = (jobs : Jobs) (id : ℕ) (h : NodeState) → IsSettled jobs id h → settled jobs id h ≡ h
 
--- ---- which calls are looked at again
+-- ---- the calls that a change can settle
 
--- a get of a key of the process, or a fence in which it takes part
+-- a get of a key of the process, or a fence in which the process takes part
 abbrev pub is_about : Proc → CallState → Bool
 is_about q (CallState.in_fence f) = set.contains f.signature.participants q
 is_about q (CallState.released f gone) = false
@@ -106,7 +106,7 @@ is_about q (CallState.answered get outcome) = false
 is_about q (CallState.refreshing get number) = false
 is_about q (CallState.refreshed get outcome) = false
 
--- the fence
+-- the call waits in the fence
 abbrev pub is_in : FenceName → CallState → Bool
 is_in f (CallState.in_fence g) = eq_by_cmp name_cmp g f
 is_in f (CallState.released g gone) = false
@@ -115,13 +115,13 @@ is_in f (CallState.answered get outcome) = false
 is_in f (CallState.refreshing get number) = false
 is_in f (CallState.refreshed get outcome) = false
 
--- settled again where the test tells so
+-- settles the call again if the test selects it
 abbrev pub settle_where : Jobs → ℕ → NodeState → (CallState → Bool) → CallState → CallState
 settle_where jobs id h looks standing = if looks standing then settle jobs id h standing else standing
 
--- Two contents that know the same of all processes but one, and are told the same of fences in which it takes no part, but for
--- those that are old in the second; what is old in the first is so in the second, and each other call of the second is one of the
--- first.
+-- Two states that differ only in one process q. Their knowledge of all other processes is equal. The entries of fences without q that are
+-- not old in the second state are equal too. A fence that is old in the first state is old in the second. Each call of the second state
+-- that is not about q is a call of the first.
 pub record DiffersAt (jobs : Jobs) (id : ℕ) (q : Proc) (h g : NodeState) : Type 0 where
   pub calls : (p : Proc) (standing : CallState) → call_of g p ≡ Some standing → is_about q standing ≡ false → call_of h p ≡ Some standing
   pub near : (p : Proc) → same_proc p q ≡ false → known g.near p ≡ known h.near p
@@ -129,8 +129,9 @@ pub record DiffersAt (jobs : Jobs) (id : ℕ) (q : Proc) (h g : NodeState) : Typ
   pub old : (f : FenceName) → is_old g.table f ≡ false → is_old h.table f ≡ false
   pub told : (f : FenceName) (p : Proc) → is_old g.table f ≡ false → set.contains f.signature.participants q ≡ false → told_of jobs id g.table f p ≡ told_of jobs id h.table f p
 
--- Two contents that know the same of all processes, and are told the same of all fences but one, and but for those that are old in
--- the second; what is old in the first is so in the second, and each other call of the second is one of the first.
+-- Two states that differ only in one fence. Their knowledge of all processes is equal. The entries of all other fences that are not old in
+-- the second state are equal too. A fence that is old in the first state is old in the second. Each call of the second state that is not in
+-- the fence is a call of the first.
 pub record DiffersIn (jobs : Jobs) (id : ℕ) (f : FenceName) (h g : NodeState) : Type 0 where
   pub calls : (p : Proc) (standing : CallState) → call_of g p ≡ Some standing → is_in f standing ≡ false → call_of h p ≡ Some standing
   pub near : g.near ≡ h.near
@@ -138,13 +139,13 @@ pub record DiffersIn (jobs : Jobs) (id : ℕ) (f : FenceName) (h g : NodeState) 
   pub old : (x : FenceName) → is_old g.table x ≡ false → is_old h.table x ≡ false
   pub told : (x : FenceName) (p : Proc) → is_old g.table x ≡ false → eq_by_cmp name_cmp x f ≡ false → told_of jobs id g.table x p ≡ told_of jobs id h.table x p
 
--- where more is known of one process, gets of its keys and fences in which it takes part are looked at again
+-- if the node learns more of one process, only gets of its keys and fences in which it takes part need a second look
 abbrev pub SettledOn : Type 0
 SettledOn =
     (jobs : Jobs) (id : ℕ) (q : Proc) (h g : NodeState) → IsSettled jobs id h → DiffersAt jobs id q h g
     → settled jobs id g ≡ with_calls g (mapped (settle_where jobs id g (is_about q)) g.calls)
 
--- where one fence changed, who is in it is looked at again
+-- if one fence changes, only the processes in it need a second look
 abbrev pub SettledNames : Type 0
 SettledNames =
     (jobs : Jobs) (id : ℕ) (f : FenceName) (h g : NodeState) → IsSettled jobs id h → DiffersIn jobs id f h g

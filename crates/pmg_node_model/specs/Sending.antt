@@ -1,4 +1,4 @@
--- Which frames a node may send, and which it owes.
+-- The frames that a node may send, and the frames that it owes.
 use Rattle.std.specs.Prelude.{◌≡◌, ℕ, ◌<◌, ◌≤◌, Bool, true, false, List, [], Option, Some, None}
 use Rattle.pmg_value.specs.Lists.{In, Each}
 use Rattle.pmg_value.specs.Signatures.{FenceName}
@@ -21,7 +21,7 @@ use Rattle.pmg_node_model.specs.Acts.{Request, Act, Reply, is_peer, is_taken, ac
 use Rattle.pmg_node_model.specs.Holdings.{Get, CallState, NodeState, sealer_of, call_of}
 use Rattle.pmg_node_model.specs.declared.sent.Sent.{Sent}
 
--- the frame is sent to that node
+-- the frame, addressed to that node
 abbrev pub sent : ℕ → Frame → Sent
 sent to frame = record { to = to; frame = frame }
 
@@ -33,21 +33,22 @@ WaitsIn jobs id h f p = (home_of jobs p ≡ id) × (call_of h p ≡ Some (CallSt
 abbrev pub piece_from : NodeState → Proc → ℕ → Frame
 piece_from h p from = frames.Piece (piece_at (sealer_of h p) from reach.Far)
 
--- the node's header of a fence whose name it has, once it exists
+-- the node's header of a fence in its table, as soon as it exists
 abbrev pub own_header_of : Jobs → ℕ → NodeState → FenceName → Option (List Local)
 own_header_of jobs id h f = present jobs id h.table f
 
--- what is replied to a node that asks anew: the commits of an own process above the one that the node knows
+-- the reply to a node that asks anew: the commits of an own process above the node's level
 abbrev pub reply_anew : NodeState → RefreshAsk → RefreshReply
 reply_anew h a = refresh_reply a.ask.node a.request (piece_at (sealer_of h a.ask.proc) a.ask.level reach.Far)
 
--- the request of that number for commits of the process past the level that is known
+-- the request of that number for commits of the process above the known level
 abbrev pub ask_anew : ℕ → NodeState → Proc → ℕ → RefreshAsk
 ask_anew id h q number = refresh_ask number (commit_ask id q (level_at h.far q))
 
--- What a node may send once it did an act: what an own process sealed for other nodes, up to its level; its own header of a fence
--- whose name it has; a request for a header of a fence in which an own process waits; a request for commits; a request under a
--- number that was given, that names no commit past those known; and to such a request that came by the act the reply.
+-- The frames that a node may send after an act. A piece of an own process's commits for other nodes, up to its level. Its own header of a
+-- fence in its table. A request for a header of a fence in which an own process waits. A request for commits. A request anew, under a
+-- number that was given, up to the known level. A reply to a request anew that the act delivered, unless it names a commit that was not
+-- made.
 unfoldable pub Allowed : Jobs → ℕ → Act → NodeState → Frame → Type 0
 Allowed jobs id act h (frames.Piece c) =
     (home_of jobs c.proc ≡ id) × (c.from < (sealer_of h c.proc).level) × (c ≡ piece_at (sealer_of h c.proc) c.from reach.Far)
@@ -63,59 +64,59 @@ Allowed jobs id act h (frames.RefreshReply r) =
 abbrev pub TakesPart : Jobs → ℕ → FenceName → ℕ → Type 0
 TakesPart jobs id f node = (node ≡ id → ⊥) × (q : Proc) × In q (participants_of f) × (home_of jobs q ≡ node)
 
--- the commits that an act asks an own process's home for
+-- the commits for which an act asks an own process's home
 abbrev pub asked_by : Act → Option CommitAsk
 asked_by (Act.deliver (frames.RangeAsk a)) = Some a
 asked_by (Act.deliver (frames.DirectAsk a)) = Some a
 asked_by _ = None
 
--- A frame that a node owes once an act took it from old to new.
+-- A frame that a node owes after an act took it from old to new.
 pub data Owes (jobs : Jobs) (id : ℕ) (old : NodeState) (a : Act) (new : NodeState) : Sent → Type 0 where
-  -- its header, where that came to exist or its name came: to each other node of the fence
+  -- its header, to each other node of the fence, when the header begins to exist or the fence's name arrives
   new_header : (f : FenceName) (locals : List Local) (node : ℕ) → own_header_of jobs id new f ≡ Some locals → own_header_of jobs id old f ≡ None
       → TakesPart jobs id f node → Owes jobs id old a new (sent node (frames.Header (header id f locals)))
-  -- its header, where that was there: to the node that asks for it
+  -- its existing header, to the node that asks for it
   asked_header : (ask : FenceAsk) (locals : List Local) → a ≡ Act.deliver (frames.FenceAsk ask) → is_taken jobs id old.table (frames.FenceAsk ask) ≡ true
       → own_header_of jobs id old ask.name ≡ Some locals → Owes jobs id old a new (sent ask.node (frames.Header (header id ask.name locals)))
-  -- commits that were made: to the node that asks for them
+  -- existing commits, to the node that asks for them
   asked_piece : (ask : CommitAsk) (frame : Frame) → a ≡ Act.deliver frame → asked_by a ≡ Some ask → is_taken jobs id old.table frame ≡ true
       → ask.level < (sealer_of new ask.proc).level → Owes jobs id old a new (sent ask.node (piece_from new ask.proc ask.level))
-  -- to a node that asks anew, unless it names a commit that was not made: what was made since, be it nothing
+  -- the later commits, possibly empty, to a node that asks anew, unless it names a commit that was not made
   asked_reply : (ask : RefreshAsk) → a ≡ Act.deliver (frames.RefreshAsk ask) → is_taken jobs id old.table (frames.RefreshAsk ask) ≡ true
       → ask.ask.level ≤ (sealer_of new ask.ask.proc).level → Owes jobs id old a new (sent ask.ask.node (frames.RefreshReply (reply_anew new ask)))
-  -- the next commit: to each node that waited for it
+  -- the next commit, to each node that waited for it
   held_piece : (p : Proc) (node level : ℕ) → held_at old.held p node ≡ Some level → level < (sealer_of new p).level
       → Owes jobs id old a new (sent node (piece_from new p level))
-  -- a request for commits of a process whose key a get begins to wait for: to its home
+  -- a request for commits to the home of a process whose key a get begins to wait for
   parked_ask : (p : Proc) (get : Get) → call_of old p ≡ None → call_of new p ≡ Some (CallState.parked get) → (home_of jobs get.target ≡ id → ⊥)
       → Owes jobs id old a new (sent (home_of jobs get.target) (frames.DirectAsk (commit_ask id get.target (level_at new.far get.target))))
-  -- a request for commits of a process whose key a get asks for anew: to its home
+  -- a request for commits to the home of a process whose key a get asks for anew
   parked_anew : (p : Proc) (get : Get) (number : ℕ) → call_of old p ≡ None → call_of new p ≡ Some (CallState.refreshing get number)
       → (home_of jobs get.target ≡ id → ⊥) → Owes jobs id old a new (sent (home_of jobs get.target) (frames.RefreshAsk (ask_anew id new get.target number)))
-  -- at a nudge, all that an own process waits for: headers that are missing
+  -- at a nudge, requests for the missing headers of a fence in which an own process waits
   nudged_header : (f : FenceName) (p : Proc) (node : ℕ) → a ≡ Act.request Request.nudge → WaitsIn jobs id new f p
       → TakesPart jobs id f node → header_at jobs id new.table f node ≡ None → Owes jobs id old a new (sent node (frames.FenceAsk (fence_ask id f)))
-  -- commits that a header names, of processes of other nodes
+  -- at a nudge, requests for the missing commits of other nodes' processes that a header names
   nudged_range : (f : FenceName) (p q : Proc) (e : Entry) → a ≡ Act.request Request.nudge → WaitsIn jobs id new f p → f.signature.collect ≡ true
       → In q (participants_of f) → (home_of jobs q ≡ id → ⊥) → told_of jobs id new.table f q ≡ Some e → level_at new.far q < e.level
       → Owes jobs id old a new (sent (home_of jobs q) (frames.RangeAsk (commit_ask id q (level_at new.far q))))
-  -- commits of processes whose keys gets wait for
+  -- at a nudge, requests for commits of processes whose keys gets wait for
   nudged_ask : (p : Proc) (get : Get) → a ≡ Act.request Request.nudge → call_of new p ≡ Some (CallState.parked get) → (home_of jobs get.target ≡ id → ⊥)
       → Owes jobs id old a new (sent (home_of jobs get.target) (frames.DirectAsk (commit_ask id get.target (level_at new.far get.target))))
-  -- commits of processes whose keys gets ask for anew, under the same numbers
+  -- at a nudge, requests for commits of processes whose keys gets ask for anew, under their old numbers
   nudged_anew : (p : Proc) (get : Get) (number : ℕ) → a ≡ Act.request Request.nudge → call_of new p ≡ Some (CallState.refreshing get number)
       → (home_of jobs get.target ≡ id → ⊥) → Owes jobs id old a new (sent (home_of jobs get.target) (frames.RefreshAsk (ask_anew id new get.target number)))
-  -- and changes of the process sets
+  -- at a nudge, a request for changes of the process sets
   nudged_sets : a ≡ Act.request Request.nudge → (id ≡ 0 → ⊥) → Owes jobs id old a new (sent 0 (frames.RangeAsk (commit_ask id host (level_at new.far host))))
 
--- a refusal sends nothing, nor does a frame that is ignored
+-- a refused act sends nothing, and an ignored frame causes no frame
 abbrev pub is_quiet : Reply → Bool
 is_quiet (Reply.refused e) = true
 is_quiet Reply.ignored = true
 is_quiet _ = false
 
--- One step of a node: its reply and what it holds then are those of the act; what it sends goes to other nodes of the group, is
--- allowed, and has all that the node owes.
+-- One step of a node. The act determines its reply and its new state. A refused act or an ignored frame sends nothing. Each sent frame goes
+-- to another node of the group and is allowed, and all owed frames are sent.
 pub record NodeStep (jobs : Jobs) (id : ℕ) (old : NodeState) (a : Act) (r : Reply) (new : NodeState) (out : List Sent) : Type 0 where
   pub replied : r ≡ (acts jobs id old a).reply
   pub left : new ≡ (acts jobs id old a).left

@@ -1,11 +1,11 @@
 use crate::sent::Sent;
 use pmg_value::{NodeId, Proc};
 
-/// What is to be sent.
+/// An item to send.
 #[derive(Drop)]
 pub enum ToSend {
     /// A frame.
     Whole(Sent),
-    /// To the node, the commits of an own process that it was not sent yet.
+    /// The commits of an own process that the node was not sent yet.
     Rest(NodeId, Proc),
 }

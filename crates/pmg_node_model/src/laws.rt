@@ -16,12 +16,12 @@ ghost use Rattle.pmg_node_model.specs.NodeLaws.{
   HeldStayOwn,
 };
 
-/// The rules of every act of a node. Whatever scripts its content fits, after the act it fits them with the calls added that the
-/// act says. A get waits exactly where it has no answer; one that asks anew waits until the reply to its request comes, or its
-/// process ends. A process in a fence is released at the act after which the fence is ready, and stays so until it leaves or ends.
-/// Names of fences come by acts that name them; of one signature the names of two instances are there, the greatest that came and
-/// the one before, and each stays until its fence is old, as it is from then on. Each node that waits for a process's next commit
-/// is another one of the group, and the process is at home here.
+/// States the laws of every act of a node. If the state and the act fit some scripts, the state after an act fits them with the act's calls
+/// appended. A get waits exactly if it has no answer. A get that asks anew waits until the reply to its request comes, or its process ends.
+/// A process in a fence is released at the act that makes the fence ready, and stays released until it leaves or ends. A fence's name
+/// enters the table only by an act that names it. The table has at most two instances of a signature: the greatest that came, and the one
+/// before. A name stays until its fence is old, and an old fence stays old. Each node that waits for a process's next commit is another
+/// node of the group, and the process is at home here.
 pub fn node_rules()
     ensures acts_fit { ActsFit }
     ensures parked_wait { ParkedWait }

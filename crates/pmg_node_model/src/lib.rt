@@ -1,5 +1,5 @@
-//! What a node does, as definitions: when it refuses, what it replies, what it holds then, and what it sends. Here are the rules
-//! of these definitions; `pmg_node` is the code that meets them.
+//! The behaviour of a node, as definitions: its refusals, its replies, its states, and the frames that it sends. This crate has the laws of
+//! these definitions; `pmg_node` is the code that refines them.
 #![tactic(auto)]
 
 mod due;

@@ -1,9 +1,10 @@
-//! What a node keeps, and what it sends.
+//! The invariant of a node, and the frames that it sends.
 ghost use Rattle.pmg_node_model.specs.Kept.{NewIsServer, ServerStays, SettledSame, SettledOn, SettledNames};
 ghost use Rattle.pmg_node_model.specs.SendingRules.{ChosenGoToPeers, ChosenIsAllowed, ChosenHasOwed, ChosenIsStep};
 
-/// The rules of what a node keeps and of what it sends: a new one keeps it, and so does each act; after a change only some
-/// calls are looked at again; what it joins is all that comes to its stores; and what is chosen goes to other nodes, may be sent, and has all that is owed.
+/// States the invariant of a node, and the rules of the frames that it sends. A new node satisfies the invariant, and each act preserves
+/// it. After a change only some calls need a second look. Each chosen frame goes to another node and is allowed, and each owed frame is
+/// chosen.
 pub fn sending_rules()
     ensures new_is_server { NewIsServer }
     ensures server_stays { ServerStays }

@@ -5,9 +5,9 @@ use std::alloc::AllocError;
 /// A frame on its way to a node.
 #[derive(Drop)]
 pub struct Sent {
-    /// The node that it is sent to.
+    /// The node that the frame is sent to.
     pub to: NodeId,
-    /// What is sent.
+    /// The frame.
     pub frame: Frame,
 }
 

@@ -1,4 +1,4 @@
--- The stores of a node, as they are once pieces are joined into them.
+-- The stores of a node after a join of pieces.
 use Rattle.std.specs.Option.{option_map}
 use Rattle.pmg_commit.specs.Data.{Data}
 use Rattle.pmg_node_model.specs.Holdings.{joined}
@@ -8,6 +8,6 @@ use Rattle.pmg_node_parts.specs.declared.ahead.BoardPreview.{BoardPreview}
 abbrev pub near_ahead : BoardPreview → Data
 near_ahead a = joined a.board.now.near (option_map (λ c. c.now) a.near)
 
--- and for reads from other nodes
+-- for reads from other nodes
 abbrev pub far_ahead : BoardPreview → Data
 far_ahead a = joined a.board.now.far (option_map (λ c. c.now) a.far)

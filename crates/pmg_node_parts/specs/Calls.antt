@@ -1,4 +1,4 @@
--- The calls that own processes are in, as a node keeps them.
+-- The calls of own processes, as a node keeps them.
 use Rattle.std.specs.Prelude.{ℕ, Bool, false, List, [], ◌∷◌, Option, Some, None, if◌then◌else◌}
 use Rattle.std.specs.FinMap as finite
 use Rattle.std.specs.FinSet as set
@@ -23,9 +23,9 @@ use Rattle.pmg_node_parts.specs.declared.call.Completion.TheVariants as settling
 use Rattle.pmg_node_parts.specs.declared.call.Found.{Found}
 use Rattle.pmg_node_parts.specs.declared.call.Found.TheVariants as founds
 
--- ---- what a call is
+-- ---- the meaning of a call
 
--- what a get that waited is answered, with the value as its canonical bytes
+-- the answer to a get that waited, with the value as its canonical bytes
 abbrev pub found_outcome : Found → Outcome
 found_outcome (founds.Value value) = Outcome.found (spelling value)
 found_outcome founds.NotFound = Outcome.absent
@@ -35,7 +35,7 @@ found_outcome founds.OutsideScope = Outcome.outside
 abbrev pub get_of : Proc → List ℕ → Get
 get_of target key = record { target = target; key = key }
 
--- the call that an own process is in
+-- the call of an own process
 abbrev pub standing_of : Call → CallState
 standing_of (calls.InFence f) = CallState.in_fence f
 standing_of (calls.Released f gone) = CallState.released f gone.items
@@ -44,12 +44,12 @@ standing_of (calls.Answered target key found) = CallState.answered (get_of targe
 standing_of (calls.Refreshing target key number) = CallState.refreshing (get_of target key) number
 standing_of (calls.Refreshed target key found) = CallState.refreshed (get_of target key) (found_outcome found)
 
--- the fence that a process is released from, and the participants that are gone
+-- the fence that released the process, and the gone participants
 abbrev pub released_by_fence : CallState → Option (FenceName × List Proc)
 released_by_fence (CallState.released f gone) = Some (f, gone)
 released_by_fence _ = None
 
--- what a get is answered
+-- the answer to a get
 abbrev pub answered_in : CallState → Option Outcome
 answered_in (CallState.answered get outcome) = Some outcome
 answered_in (CallState.refreshed get outcome) = Some outcome
@@ -60,18 +60,18 @@ abbrev pub anew_in : CallState → Option (Get × ℕ)
 anew_in (CallState.refreshing get number) = Some (get, number)
 anew_in _ = None
 
--- if there is a call
+-- the get of the call that asks anew, if there is a call
 abbrev pub anew_of : Option CallState → Option (Get × ℕ)
 anew_of None = None
 anew_of (Some standing) = anew_in standing
 
--- what a call that waited came to, as the call that its process is in
+-- a completion, as the call of its process
 abbrev pub standing_by : Completion → CallState
 standing_by (settlings.Released f gone) = CallState.released f gone.items
 standing_by (settlings.Answered target key found) = CallState.answered (get_of target key) (found_outcome found)
 standing_by (settlings.Refreshed target key found) = CallState.refreshed (get_of target key) (found_outcome found)
 
--- ---- who waits for what
+-- ---- the waiting calls
 
 -- the key of the process that a get waits for
 abbrev pub key_on : Proc → CallState → Option (List ℕ)
@@ -82,15 +82,15 @@ key_on q (CallState.answered get outcome) = None
 key_on q (CallState.refreshing get number) = None
 key_on q (CallState.refreshed get outcome) = None
 
--- who is in the call, and the key, where its get waits for a key of the process
+-- the caller and the key, if its get waits for a key of the process
 abbrev pub asks_on : Proc → Proc × CallState → List (Proc × List ℕ)
 asks_on q e = option_to_list (option_map (λ key. (e.0, key)) (key_on q e.1))
 
--- the processes whose gets wait for a key of the process, and the keys, in their order
+-- the processes whose gets wait for a key of the process, with the keys, in their order
 abbrev pub all_parked_on : Calls → Proc → List (Proc × List ℕ)
 all_parked_on all q = flat_map (asks_on q) (finite.entries all)
 
--- the process whose key a get waits for; and the number of its request, where it asks anew
+-- the process whose key a get waits for, and the number of its request, if it asks anew
 abbrev pub ask_of : CallState → Option (Proc × Option ℕ)
 ask_of (CallState.in_fence f) = None
 ask_of (CallState.released f gone) = None
@@ -99,7 +99,7 @@ ask_of (CallState.answered get outcome) = None
 ask_of (CallState.refreshing get number) = Some (get.target, Some number)
 ask_of (CallState.refreshed get outcome) = None
 
--- that of each get that waits, in the order of those who wait
+-- this process and number for each get that waits, in the order of the callers
 abbrev pub all_asks : Calls → List (Proc × Option ℕ)
 all_asks all = flat_map (λ e. option_to_list (ask_of e.1)) (finite.entries all)
 
@@ -108,7 +108,7 @@ abbrev pub is_waiting_in : FenceName → CallState → Bool
 is_waiting_in f (CallState.in_fence g) = eq_by_cmp name_cmp f g
 is_waiting_in f _ = false
 
--- who is in the call, where that is in the fence and not released
+-- the caller, if the call is in the fence and not released
 abbrev pub waits_in : FenceName → Proc × CallState → List Proc
 waits_in f e = if is_waiting_in f e.1 then e.0 ∷ [] else []
 
@@ -116,14 +116,13 @@ waits_in f e = if is_waiting_in f e.1 then e.0 ∷ [] else []
 abbrev pub all_waiting_in : Calls → FenceName → List Proc
 all_waiting_in all f = flat_map (waits_in f) (finite.entries all)
 
--- the fences in which processes are and are not released, in the order of their names
+-- the fences in which unreleased processes are, in the order of their names
 abbrev pub all_waited : Calls → List FenceName
 all_waited all = in_order (set.from_list {R = name_cmp} (flat_map (λ e. waited e.1) (finite.entries all)))
 
--- ---- what calls are answered
+-- ---- the answers to calls
 
--- the calls, with these in the place of those that the processes are in, where they are in one: of several for one process the
--- first counts
+-- the calls, with each completion in place of its process's call, if there is one; the first of several completions for one process counts
 abbrev pub all_instead : Calls → List (Proc × Completion) → Calls
 all_instead all [] = all
 all_instead all (e ∷ es) = changed_at (all_instead all es) e.0 (standing_by e.1)

@@ -1,4 +1,4 @@
--- What a node holds, as a model's value.
+-- The state of a node, as the value of a model.
 use Rattle.std.proofs.Common.{◌≡◌, ◌⊎◌, ℕ, zero, suc, List, inl, inr, refl}
 use Rattle.std.specs.Coded.{Coded, code_by, coded×, coded⊎, coded_ℕ, coded_list}
 use Rattle.std.specs.FinMap as finite
@@ -33,7 +33,7 @@ outcome_back Outcome.absent = refl
 outcome_back Outcome.outside = refl
 outcome_back Outcome.parks = refl
 
--- an outcome as the value that is found, or a number where none is
+-- an outcome as its found value, or a number without one
 abbrev pub coded_outcome : Coded Outcome
 coded_outcome = code_by (List ℕ ⊎ ℕ) (coded⊎ (coded_list coded_ℕ) coded_ℕ) outcome_to outcome_from outcome_back
 
@@ -41,7 +41,7 @@ coded_outcome = code_by (List ℕ ⊎ ℕ) (coded⊎ (coded_list coded_ℕ) code
 abbrev pub coded_get : Coded Get
 coded_get = code_by (Proc × List ℕ) (coded× coded_proc (coded_list coded_ℕ)) (λ g. (g.target, g.key)) (λ p. record { target = p.0; key = p.1 }) (λ _. refl)
 
--- what codes the call that a process is in: a sum with one part for each kind of call
+-- the code of a process's call: a sum with one part for each kind of call
 abbrev pub StandingCode : Type 0
 StandingCode = ((FenceName ⊎ (FenceName × List Proc)) ⊎ (Get ⊎ (Get × Outcome))) ⊎ ((Get × ℕ) ⊎ (Get × Outcome))
 
@@ -65,7 +65,7 @@ pub standing_back : (s : CallState) → standing_from (standing_to s) ≡ s
 standing_back (CallState.in_fence f) = refl
 standing_back _ = refl
 
--- the call that a process is in, as such a sum
+-- the call of a process, as such a sum
 abbrev pub coded_standing : Coded CallState
 coded_standing =
     code_by StandingCode
@@ -73,7 +73,7 @@ coded_standing =
     (coded⊎ (coded× coded_get coded_ℕ) (coded× coded_get coded_outcome)))
     standing_to standing_from standing_back
 
--- the calls that own processes are in
+-- the calls of own processes
 abbrev pub Calls : Type 0
 Calls = finite.FinMap proc_cmp CallState
 
@@ -81,7 +81,7 @@ Calls = finite.FinMap proc_cmp CallState
 abbrev pub coded_calls : Coded Calls
 coded_calls = finite.code coded_proc coded_standing
 
--- what a node holds, as a tuple
+-- the state of a node, as a tuple
 abbrev pub coded_holding : Coded NodeState
 coded_holding =
     code_by (Data × (Data × (AllSealed × (Sealed × (Fences × (Calls × (Levels × ℕ)))))))

@@ -1,4 +1,4 @@
--- How marks are set, and set back.
+-- Marks: how they are set, and set back.
 use Rattle.std.specs.Prelude.{◌≡◌, ℕ, ◌==◌, true, List, [], ◌∷◌, Option, Some, None, is_some, if◌then◌else◌}
 use Rattle.std.specs.FinMap as finite
 use Rattle.pmg_value.specs.Lists.{Each}
@@ -22,12 +22,12 @@ mark_by (frames.DirectAsk a) = None
 mark_by (frames.RefreshAsk a) = None
 mark_by (frames.RefreshReply r) = Some (r.told.proc, r.told.to)
 
--- the marks with what each was before it was set, the one that was set first in front
+-- the marks set back to their earlier levels, the last one first
 abbrev pub marks_back : Levels → List MarkUndo → Levels
 marks_back marks [] = marks
 marks_back marks (b ∷ bs) = with_level (marks_back marks bs) b.proc b.node b.level
 
--- each of them is set
+-- each of the marks is set
 abbrev pub AreSet : Levels → List MarkUndo → Type 0
 AreSet marks bs = Each (λ b. is_some (node_level marks b.proc b.node) ≡ true) bs
 
@@ -36,15 +36,15 @@ abbrev pub node_zeros : Levels → Proc → List ℕ → Levels
 node_zeros marks p [] = marks
 node_zeros marks p (n ∷ ns) = node_zeros (with_level marks p n 0) p ns
 
--- the marks, with that of each of these processes at each of these nodes at 0
+-- the marks with 0 for each of these processes at each of these nodes
 abbrev pub zeros : Levels → List Proc → List ℕ → Levels
 zeros marks [] nodes = marks
 zeros marks (p ∷ ps) nodes = zeros (node_zeros marks p nodes) ps nodes
 
--- those whose commits a node may send: its own processes, and at node 0 the one that stands for the group's host
+-- the processes whose commits a node may send: its own processes, and at node 0 the process that represents the group's host
 abbrev pub senders : Jobs → ℕ → List Proc
 senders jobs id = if id == 0 then host ∷ procs_at jobs id else procs_at jobs id
 
--- a new node's marks: nothing was sent to anybody
+-- a new node's marks: it sent nothing to any node
 abbrev pub new_marks : Jobs → ℕ → Levels
 new_marks jobs id = zeros finite.empty (senders jobs id) (peers jobs id)

@@ -1,4 +1,4 @@
--- What a node is told, by what a header lists and by what processes sealed.
+-- The frames for a node, by the lines of a header and the commits of processes.
 use Rattle.std.specs.Prelude.{ℕ, nat_lt, List, [], ◌∷◌, map, if◌then◌else◌}
 use Rattle.std.specs.List.{flat_map}
 use Rattle.pmg_value.specs.declared.process.Proc.{Proc}
@@ -18,26 +18,26 @@ use Rattle.pmg_node_model.specs.declared.due.ToSend.TheVariants as sendings
 abbrev pub pieces_by : ℕ → List Local → List ToSend
 pieces_by node locals = map (λ l. sendings.Rest node l.proc) locals
 
--- the header, and where the fence collects data these commits
+-- the header, and, if the fence collects data, these commits
 abbrev pub telling_by : Header → ℕ → List ToSend
 telling_by hd node = sendings.Whole (sent node (frames.Header hd)) ∷ (if hd.name.signature.collect then pieces_by node hd.locals else [])
 
--- to each other node of the fence goes the header, and where data is collected, the commits of those listed
+-- the header for each other node of the fence, and, if data is collected, the commits of the listed processes
 abbrev pub announcing_by : Jobs → ℕ → Header → List ToSend
 announcing_by jobs id hd = flat_map (telling_by hd) (peers_in jobs id hd.name)
 
--- a piece of what a process sealed
+-- a piece of the process's commits above a number, for the node
 abbrev pub piece_by : (Proc → Sealed) → Proc → ℕ → ℕ → ToSend
 piece_by sealer p node from = sendings.Whole (sent node (frames.Piece (piece_at (sealer p) from reach.Far)))
 
--- to each other node goes one piece of all that the process sealed
+-- one piece of all the process's commits, for each other node
 abbrev pub spread_by : Jobs → ℕ → (Proc → Sealed) → Proc → List ToSend
 spread_by jobs id sealer p = map (λ m. piece_by sealer p m 0) (peers jobs id)
 
--- a piece of what was made above the level, if anything
+-- a piece of the commits above the level, if there are any
 abbrev pub answering_by : (Proc → Sealed) → ℕ → Proc → ℕ → List ToSend
 answering_by sealer node p level = if nat_lt level (sealer p).level then piece_by sealer p node level ∷ [] else []
 
--- to the nodes that wait for the process's next commit, the pieces after what each of them knows
+-- the pieces after each node's known level, for the nodes that wait for the process's next commit
 abbrev pub settling_by : (Proc → Sealed) → Levels → Proc → List ToSend
 settling_by sealer held p = map (λ e. piece_by sealer p e.0 e.1) (below (sealer p).level (levels_of held p))

@@ -1,4 +1,4 @@
--- Who waits in which fence.
+-- The waiting processes, by fence.
 use Rattle.std.specs.Prelude.{◌==◌, if◌then◌else◌}
 use Rattle.std.specs.Coded.{Coded}
 use Rattle.std.specs.FinMap as finite
@@ -10,7 +10,7 @@ use Rattle.pmg_value.specs.declared.process.Proc.{Proc}
 use Rattle.pmg_frame.specs.FenceOrder.{name_cmp}
 use Rattle.pmg_frame.specs.Fences.{coded_name}
 
--- processes, each once
+-- a set of processes
 abbrev pub Procs : Type 0
 Procs = set.FinSet proc_cmp
 
@@ -30,14 +30,14 @@ coded_waiters = finite.code coded_name coded_procs
 abbrev pub waiters_in : Waiters → FenceName → Procs
 waiters_in all f = unwrap_or (finite.get all f) set.empty
 
--- the process waits in the fence too
+-- the map with the process as a waiter in the fence
 abbrev pub waiting_too : Waiters → FenceName → Proc → Waiters
 waiting_too all f p = finite.insert all f (set.insert (waiters_in all f) p)
 
--- these wait in the fence; one in which nobody waits is not listed
+-- the map with these waiters in the fence; a fence without waiters is not listed
 abbrev pub left_in : Waiters → FenceName → Procs → Waiters
 left_in all f procs = if set.len procs == 0 then finite.remove all f else finite.insert all f procs
 
--- the process waits in the fence no longer
+-- the map without the process as a waiter in the fence
 abbrev pub waiting_less : Waiters → FenceName → Proc → Waiters
 waiting_less all f p = left_in all f (set.remove (waiters_in all f) p)

@@ -1,4 +1,4 @@
-//! The stores of a node, as they are once pieces are joined into them.
+//! The stores of a node after a join of pieces.
 ghost use Rattle.std.specs.Prelude.{◌≡◌, ◌==◌, ◌≤◌, ℕ, true, is_none, is_some};
 ghost use Rattle.std.specs.Option.{option_map};
 ghost use Rattle.pmg_value.specs.Spelling.{spelling};
@@ -25,7 +25,7 @@ pub struct BoardPreview<'a> {
     pub far: Option<&'a Piece>,
 }
 
-/// The value of the process under the key once the piece is joined, if there is one.
+/// Returns the value of the process under the key after the join of the piece, if there is one.
 fn read<'a>(store: &'a Store, piece: Option<&'a Piece>, proc: &Proc, key: &Key) -> Option<&'a Value>
     ensures { option_map (λ v. spelling v.now) result ≡ read_at (joined store.now (option_map (λ c. c.now) piece.entry)) proc.now key.now }
 {
@@ -35,7 +35,7 @@ fn read<'a>(store: &'a Store, piece: Option<&'a Piece>, proc: &Proc, key: &Key) 
     }
 }
 
-/// Whether the process has ended once the piece is joined, if there is one; it is looked at only where no value is seen.
+/// Returns whether the process has ended after the join of the piece, if there is one; looks at the store only without a value.
 fn has_ended(value: Option<&Value>, store: &Store, piece: Option<&Piece>, proc: &Proc) -> bool
     ensures { is_none value.entry ≡ true → result ≡ is_some (read_at (joined store.now (option_map (λ c. c.now) piece.entry)) proc.now term_key) }
 {
@@ -46,7 +46,7 @@ fn has_ended(value: Option<&Value>, store: &Store, piece: Option<&Piece>, proc: 
     }
 }
 
-/// The process's level once the piece is joined, if there is one.
+/// Returns the process's level after the join of the piece, if there is one.
 fn level(store: &Store, piece: Option<&Piece>, proc: &Proc) -> u64
     ensures value { result ≡ level_at (joined store.now (option_map (λ c. c.now) piece.entry)) proc.now }
     ensures bound { result ≤ MAX_COMMIT }
@@ -58,7 +58,7 @@ fn level(store: &Store, piece: Option<&Piece>, proc: &Proc) -> u64
 }
 
 impl<'a> BoardPreview<'a> {
-    /// The process's level for reads from other nodes.
+    /// Returns the process's level for reads from other nodes.
     pub fn far_level(&self, proc: &Proc) -> u64
         ensures value { result ≡ level_at (far_ahead self.now) proc.now }
         ensures bound { result ≤ MAX_COMMIT }
@@ -66,7 +66,7 @@ impl<'a> BoardPreview<'a> {
         level(self.board.far(), self.far, proc)
     }
 
-    /// What a get of a key of a process of this node is answered.
+    /// Returns the answer to a get of a key of a process of this node.
     fn answer_near(&self, target: &Proc, key: &Key, mode: Mode) -> Answer<'a>
         ensures { outcome_of result ≡ resolve (Seen.local (read_at (near_ahead self.now) target.now key.now) (read_at (far_ahead self.now) target.now key.now)
             (is_some (read_at (near_ahead self.now) target.now term_key))) mode }
@@ -78,7 +78,7 @@ impl<'a> BoardPreview<'a> {
         resolve(View::Near { near, far, term }, mode)
     }
 
-    /// What a get of a key of a process of another node is answered.
+    /// Returns the answer to a get of a key of a process of another node.
     fn answer_far(&self, target: &Proc, key: &Key, mode: Mode) -> Answer<'a>
         ensures { outcome_of result ≡ resolve (Seen.remote (read_at (far_ahead self.now) target.now key.now)
             (is_some (read_at (far_ahead self.now) target.now term_key))) mode }
@@ -89,7 +89,7 @@ impl<'a> BoardPreview<'a> {
         resolve(View::Far { far, term }, mode)
     }
 
-    /// What a get of a key that is not reserved is answered at a node, which is the target's home or is not.
+    /// Returns the answer to a get of a key that is not reserved, at a node that is the target's home or is not.
     pub fn answer(&self, is_home: bool, target: &Proc, key: &Key, mode: Mode) -> Answer<'a>
         ensures { (jobs : Jobs) (id : ℕ) → is_home ≡ (home_of jobs target.now == id)
             → outcome_of result ≡ resolve (plain_seen jobs id (read_at (near_ahead self.now) target.now) (read_at (far_ahead self.now) target.now)

@@ -1,4 +1,4 @@
-//! What calls come to be answered.
+//! The answers to waiting calls.
 ghost use Rattle.std.specs.Prelude.{◌≡◌, ◌++◌, ◌==◌, ◌&&◌, false, Some, IfOk, OnOk};
 ghost use Rattle.std.specs.FinMap as finite;
 ghost use Rattle.std.specs.List.{flat_map};
@@ -24,7 +24,7 @@ use pmg_node_model::{Sent, ToSend};
 use pmg_value::{Key, NodeId, Proc, copy_all};
 use std::alloc::AllocError;
 
-/// What a get that waited finds, unless it waits still.
+/// Returns the answer to a get that waited, unless it still waits.
 fn to_found(answer: Answer<'_>) -> Result<Option<Found>, AllocError>
     ensures { IfOk result (λ found. found_as found ≡ outcome_of answer.entry) }
 {
@@ -36,7 +36,7 @@ fn to_found(answer: Answer<'_>) -> Result<Option<Found>, AllocError>
     }
 }
 
-/// What a get of the target's key finds once the stores are so, unless it waits still.
+/// Returns the answer to a get of the target's key with these stores, unless it still waits.
 fn find(
     registry: &Registry,
     id: NodeId,
@@ -49,7 +49,7 @@ fn find(
     to_found(ahead.answer(registry.is_home(id, target), target, key, Mode::Wait))
 }
 
-/// Which of the gets of the target's keys come to be answered, and how.
+/// Returns the gets of the target's keys that have an answer, with their answers.
 fn answer_gets(
     registry: &Registry,
     id: NodeId,
@@ -70,7 +70,7 @@ fn answer_gets(
     Ok(())
 }
 
-/// What a get that asks anew finds.
+/// Returns the answer to a get that asks anew.
 fn found_then(answer: Answer<'_>) -> Result<Found, AllocError>
     requires { still_waits (outcome_of answer) ≡ false }
     ensures { IfOk result (λ found. found_as (Some found) ≡ outcome_of answer.entry) }
@@ -82,7 +82,7 @@ fn found_then(answer: Answer<'_>) -> Result<Found, AllocError>
     }
 }
 
-/// What a get of the target's key that asks anew finds once the stores are so.
+/// Returns the answer to a get of the target's key that asks anew, with these stores.
 fn find_then(
     registry: &Registry,
     id: NodeId,
@@ -96,14 +96,15 @@ fn find_then(
     found_then(ahead.answer(registry.is_home(id, target), target, key, Mode::Now))
 }
 
-/// Whether a get of a key of the target that waits for the reply to the one request gets the reply to the other, of the process.
+/// Returns whether a get of a key of the target that waits for the reply to request `waits_for` gets the reply to request `number`, about
+/// the process.
 fn is_replied(number: u64, proc: &Proc, target: &Proc, waits_for: u64) -> bool
     ensures { result ≡ ((waits_for == number) && same_proc target.now proc.now) }
 {
     waits_for == number && target == proc
 }
 
-/// What the asker's get comes to be answered by the reply to the request of that number, of the process, if it waits for that.
+/// Returns the answer to the asker's get by the reply to the request of that number, about the process, if the get waits for this reply.
 fn answer_asker(
     registry: &Registry,
     id: NodeId,
@@ -130,7 +131,7 @@ fn answer_asker(
     Ok(())
 }
 
-/// What the get of the asker, if there is one, comes to be answered by the reply to the request of that number, of the process.
+/// Returns the answer to the get of the asker, if there is one, by the reply to the request of that number, about the process.
 fn answer_reply(
     registry: &Registry,
     id: NodeId,
@@ -151,14 +152,14 @@ fn answer_reply(
     answer_asker(registry, id, ahead, calls, asker, number, proc, answers)
 }
 
-/// Whether the fence is ready once the stores are so.
+/// Returns whether the fence is ready with these stores.
 fn is_ready(table: &Table, ahead: &BoardPreview<'_>, name: &FenceName) -> bool
     ensures { result ≡ is_ready table.now.jobs table.now.node table.now.fences name.now (level_at (far_ahead ahead.now)) }
 {
     table.ready(name, |proc| ahead.far_level(proc))
 }
 
-/// The processes are released from the fence, with those that are gone.
+/// Returns the release of the processes from the fence, with the gone participants.
 fn release_all(
     name: &FenceName,
     gone: &Vec<Proc>,
@@ -173,7 +174,7 @@ fn release_all(
     Ok(())
 }
 
-/// Whoever waits in the fence comes to be released, if it is ready.
+/// Returns the releases of the processes that wait in the fence, if it is ready.
 fn release_in(
     table: &Table,
     ahead: &BoardPreview<'_>,
@@ -191,7 +192,7 @@ fn release_in(
     release_all(name, &gone, calls.waiting_in(name)?, answers)
 }
 
-/// Whoever waits in a ready fence in which the process takes part comes to be released.
+/// Returns the releases of the processes that wait in ready fences with the process as a participant.
 fn release_with(
     table: &Table,
     ahead: &BoardPreview<'_>,
@@ -210,7 +211,7 @@ fn release_with(
     Ok(())
 }
 
-/// Gets of the process's keys come to be answered, and whoever waits in a ready fence in which it takes part released.
+/// Returns the answers to gets of the process's keys, and the releases from ready fences in which it takes part.
 fn answer_about(
     table: &Table,
     id: NodeId,
@@ -229,7 +230,7 @@ fn answer_about(
     Ok(())
 }
 
-/// What calls come to be answered once the stores are so: gets of the process's keys, and fences in which it takes part.
+/// Returns the answers to calls with these stores: to gets of the process's keys, and to calls in fences in which it takes part.
 pub fn answers_about(
     table: &Table,
     id: NodeId,
@@ -246,8 +247,8 @@ pub fn answers_about(
     Ok(answers)
 }
 
-/// What calls come to be answered once the stores are so and the reply to the request of that number, of the process, has
-/// come: the asker's get, if it waits for that, gets of the process's keys, and fences in which it takes part.
+/// Returns the answers to calls with these stores, after the reply to the request of that number, about the process: to the asker's get, if
+/// it waits for this reply, to gets of the process's keys, and to calls in fences in which the process takes part.
 pub fn answers_then(
     table: &Table,
     id: NodeId,
@@ -280,7 +281,7 @@ pub fn answers_then(
     Ok(answers)
 }
 
-/// What calls in the fence come to be answered.
+/// Returns the answers to calls in the fence.
 pub fn answers_in(
     table: &Table,
     id: NodeId,
@@ -296,7 +297,7 @@ pub fn answers_in(
     Ok(answers)
 }
 
-/// Whether a get of the target's key waits still once the stores are so.
+/// Returns whether a get of the target's key still waits with these stores.
 fn still_waits(
     registry: &Registry,
     id: NodeId,
@@ -312,7 +313,7 @@ fn still_waits(
     )
 }
 
-/// The process's home is asked for its commits, at the level that is known once the stores are so.
+/// Returns the request to the process's home for its commits above the known level with these stores.
 fn home_ask(
     registry: &Registry,
     id: NodeId,
@@ -330,7 +331,7 @@ fn home_ask(
     }))
 }
 
-/// The process's home is asked once for each of the gets of its keys that waits still.
+/// Returns one request to the process's home for each of the gets of its keys that still waits.
 fn ask_for(
     registry: &Registry,
     id: NodeId,
@@ -349,7 +350,7 @@ fn ask_for(
     Ok(dues)
 }
 
-/// For each get of the process's keys that will wait still once the stores are so, the process's home is asked.
+/// Returns one request to the process's home for each get of the process's keys that still waits with these stores.
 pub fn asks_again(
     table: &Table,
     id: NodeId,

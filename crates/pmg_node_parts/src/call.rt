@@ -1,4 +1,4 @@
-//! The call that a process is in, and what it comes to.
+//! The call that a process is in, and its completion.
 ghost use Rattle.std.specs.Prelude.{◌≡◌, IfOk};
 ghost use Rattle.std.specs.Option.{option_map};
 ghost use Rattle.pmg_node_parts.specs.Calls.{anew_in, answered_in, get_of, found_outcome, released_by_fence, standing_of, standing_by};
@@ -7,30 +7,30 @@ use pmg_frame::FenceName;
 use pmg_value::{Key, Proc, Value, copy_all};
 use std::alloc::AllocError;
 
-/// What a get that waited is answered (PMIx Standard 5.0, PMIx_Get).
+/// The answer to a get that waited (PMIx Standard 5.0, PMIx_Get).
 #[derive(Drop)]
 pub enum Found {
     /// The value.
     Value(Value),
-    /// There is no value, and there will be none.
+    /// There is no value, and there will be no value.
     NotFound,
-    /// There is a value, but its scope keeps it from the process that asks.
+    /// There is a value, but its scope keeps it from the asking process.
     OutsideScope,
 }
 
 /// The call that an own process is in (PMIx Standard 5.0, PMIx_Fence, PMIx_Get).
 pub enum Call {
-    /// It is in the fence, and not released.
+    /// The process is in the fence, and not released.
     InFence(FenceName),
-    /// It is released from the fence, with the participants that are gone, and has not left it.
+    /// The process is released from the fence, with the gone participants, and has not left it.
     Released(FenceName, Vec<Proc>),
-    /// Its get waits for the key of the process.
+    /// The process's get waits for the key of the other process.
     Parked(Proc, Key),
-    /// Its get of the key of the process is answered, and it has not taken the answer.
+    /// The process's get of the key of the other process is answered, and the process has not taken the answer.
     Answered(Proc, Key, Found),
-    /// Its get of the key of the process asks anew, and waits for the reply to the node's request of that number.
+    /// The process's get of the key of the other process asks anew, and waits for the reply to the node's request of that number.
     Refreshing(Proc, Key, u64),
-    /// That reply came, and its get is answered, and it has not taken the answer.
+    /// This reply came and answered the get, and the process has not taken the answer.
     Refreshed(Proc, Key, Found),
 }
 
@@ -47,9 +47,9 @@ impl Drop for Call {
     }
 }
 
-/// What a call that waited came to: it waits no longer, and its process has yet to take this.
+/// The completion of a call that waited: it waits no longer, and its process has yet to take the answer.
 pub enum Completion {
-    /// The process is released from the fence, with the participants that are gone.
+    /// The process is released from the fence, with the gone participants.
     Released(FenceName, Vec<Proc>),
     /// The get of the key of the process is answered.
     Answered(Proc, Key, Found),
@@ -68,7 +68,7 @@ impl Drop for Completion {
 }
 
 impl Found {
-    /// Returns a copy, the same answer.
+    /// Returns a copy, an equal answer.
     fn copy(&self) -> Result<Found, AllocError>
         ensures { IfOk result (λ copy. found_outcome copy ≡ found_outcome self.now) }
     {
@@ -81,7 +81,7 @@ impl Found {
 }
 
 impl Call {
-    /// Returns a copy, the same call.
+    /// Returns a copy, an equal call.
     pub fn copy(&self) -> Result<Call, AllocError>
         ensures { IfOk result (λ copy. standing_of copy ≡ standing_of self.now) }
     {
@@ -101,7 +101,7 @@ impl Call {
         })
     }
 
-    /// The fence that the process is released from, and the participants that are gone, if it is released.
+    /// Returns the fence that released the process, and the gone participants, if the process is released.
     pub fn into_released(self) -> Option<(FenceName, Vec<Proc>)>
         ensures { option_map (λ r. (r.0, r.1.items)) result ≡ released_by_fence (standing_of self) }
     {
@@ -112,7 +112,7 @@ impl Call {
         }
     }
 
-    /// What the process's get is answered, if it is.
+    /// Returns the answer to the process's get, if there is one.
     pub fn into_found(self) -> Option<Found>
         ensures { option_map found_outcome result ≡ answered_in (standing_of self) }
     {
@@ -124,7 +124,7 @@ impl Call {
         }
     }
 
-    /// The target and the key of the get that asks anew, and the number of its request, if it is such a one.
+    /// Returns the target and the key of the get that asks anew, and the number of its request, if the call is such a get.
     pub fn refreshing(&self) -> Option<(&Proc, &Key, u64)>
         ensures { option_map (λ g. (get_of g.0.now g.1.now, g.2)) result ≡ anew_in (standing_of self.now) }
     {
@@ -137,7 +137,7 @@ impl Call {
 }
 
 impl Completion {
-    /// The call that came to this.
+    /// Returns the completed call.
     pub fn into_call(self) -> Call
         ensures { standing_of result ≡ standing_by self }
     {

@@ -16,7 +16,7 @@ use std::collections::BTreeMap;
 use std::marker::Model;
 use std::mem;
 
-/// The process whose key the call waits for, if it does, and the number of its request, where it asks anew.
+/// Returns the process whose key the call waits for, if it does, and the number of its request, if it asks anew.
 fn ask_of(call: &Call) -> Option<(&Proc, Option<u64>)>
     ensures { option_map (λ a. (a.0.now, a.1)) result ≡ ask_of (standing_of call.now) }
 {
@@ -28,7 +28,7 @@ fn ask_of(call: &Call) -> Option<(&Proc, Option<u64>)>
     }
 }
 
-/// Puts the call of the process among the others. Where an allocation fails, it is given back, and nothing changes.
+/// Puts the call of the process among the others. If an allocation fails, the call is given back, and nothing changes.
 fn put_row(rows: &mut BTreeMap<Proc, Call>, proc: Proc, call: Call) -> Result<(), (Proc, Call)>
     ensures ok { OnOk result (rows_of {R = proc_cmp} standing_of rows.new.entries
         ≡ finite.insert (rows_of standing_of rows.old.entries) proc (standing_of call)) }
@@ -41,7 +41,7 @@ fn put_row(rows: &mut BTreeMap<Proc, Call>, proc: Proc, call: Call) -> Result<()
     }
 }
 
-/// Puts another call in the place of the one that the process is in, if it is in one, and gives back what is left.
+/// Replaces the call of the process, if it is in one, and gives back the call that is left over.
 fn change_row(rows: &mut BTreeMap<Proc, Call>, proc: &Proc, mut call: Call) -> Call
     ensures rows { rows_of {R = proc_cmp} standing_of rows.new.entries
         ≡ changed_at (rows_of standing_of rows.old.entries) proc.now (standing_of call) }
@@ -87,7 +87,7 @@ impl Model for Calls {
 }
 
 impl Calls {
-    /// Nobody is in a call. It keeps the allocator.
+    /// Makes an empty map: no process is in a call. It keeps the allocator.
     pub fn new(alloc: Global) -> Calls
         ensures { result ≡ finite.empty }
     {
@@ -98,7 +98,7 @@ impl Calls {
         }
     }
 
-    /// Returns a copy, in which each process is in the same call. It keeps the allocator.
+    /// Returns a copy with an equal call for each process. It keeps the allocator.
     pub fn copy(&self) -> Result<Calls, AllocError>
         ensures { IfOk result (λ copy. copy ≡ self.now) }
     {
@@ -109,14 +109,14 @@ impl Calls {
         Ok(copies)
     }
 
-    /// The call that the process is in.
+    /// Returns the call of the process.
     pub fn get(&self, proc: &Proc) -> Option<&Call>
         ensures { option_map (λ c. standing_of c.now) result ≡ finite.get self.now proc.now }
     {
         self.rows.get(proc)
     }
 
-    /// The process, which is in none, is in the call.
+    /// Puts the process, which is in no call, into the call.
     pub fn put(&mut self, proc: Proc, call: Call) -> Result<(), AllocError>
         requires { finite.get self.old proc ≡ None }
         ensures ok { OnOk result (self.new ≡ finite.insert self.old proc (standing_of call)) }
@@ -130,7 +130,7 @@ impl Calls {
         Ok(())
     }
 
-    /// The process is in no call any more; the one that it was in is given. It takes no memory.
+    /// Removes the call of the process, and returns it. It takes no memory.
     pub fn remove(&mut self, proc: &Proc) -> Option<Call>
         ensures call { option_map standing_of result ≡ finite.get self.old proc.now }
         ensures rest { self.new ≡ finite.remove self.old proc.now }
@@ -142,14 +142,14 @@ impl Calls {
         call
     }
 
-    /// The processes whose gets wait for a key of the target, and the keys, in the order of the processes.
+    /// Returns the processes whose gets wait for a key of the target, with the keys, in the order of the processes.
     pub fn parked_on(&self, target: &Proc) -> Result<Vec<(Proc, Key)>, AllocError>
         ensures { IfOk result (λ asks. asks.items ≡ all_parked_on self.now target.now) }
     {
         self.waiting.gets.on(target)
     }
 
-    /// The target and the key of the process's get that asks anew, and the number of its request, if it is in such a one.
+    /// Returns the target and the key of the process's get that asks anew, and the number of its request, if it is in such a get.
     pub fn refreshing(&self, proc: &Proc) -> Option<(&Proc, &Key, u64)>
         ensures { option_map (λ g. (get_of g.0.now g.1.now, g.2)) result ≡ anew_of (finite.get self.now proc.now) }
     {
@@ -159,8 +159,8 @@ impl Calls {
         }
     }
 
-    /// For each get that waits, the process whose key it waits for, and the number of its request, where it asks anew; in the
-    /// order of the processes that wait.
+    /// Returns, for each get that waits, the process whose key it waits for, and the number of its request, if it asks anew. They are in
+    /// the order of the waiting processes.
     pub fn asks(&self) -> Result<Vec<(Proc, Option<u64>)>, AllocError>
         ensures { IfOk result (λ asks. asks.items ≡ all_asks self.now) }
     {
@@ -173,21 +173,21 @@ impl Calls {
         Ok(asks)
     }
 
-    /// The processes that are in the fence and not released, in their order.
+    /// Returns the processes that are in the fence and not released, in their order.
     pub fn waiting_in(&self, name: &FenceName) -> Result<Vec<Proc>, AllocError>
         ensures { IfOk result (λ procs. procs.items ≡ all_waiting_in self.now name.now) }
     {
         self.waiting.fences.list(name)
     }
 
-    /// The fences in which processes are and are not released, in the order of their names.
+    /// Returns the fences in which unreleased processes are, in the order of their names.
     pub fn waited_fences(&self) -> Result<Vec<&FenceName>, AllocError>
         ensures { IfOk result (λ names. map (λ f. f.now) names.items ≡ all_waited self.now) }
     {
         self.waiting.fences.names()
     }
 
-    /// What the call of the process came to comes in the place of the call, if it is in one, and what is left is given back.
+    /// Replaces the call of the process by its completion, if it is in a call, and gives back the call that is left over.
     fn settle(&mut self, proc: &Proc, settled: Completion) -> Call
         ensures { self.new ≡ changed_at self.old proc.now (standing_by settled) }
     {
@@ -196,15 +196,15 @@ impl Calls {
         left
     }
 
-    /// The same, and what is left is dropped.
+    /// Does what `settle` does, and drops the call that is left over.
     fn replace(&mut self, proc: &Proc, settled: Completion)
         ensures { self.new ≡ changed_at self.old proc.now (standing_by settled) }
     {
         let _ = self.settle(proc, settled);
     }
 
-    /// Calls are answered: each of these comes in the place of the one that its process is in. It takes no memory. Most acts answer
-    /// none, and then there is no room to be made for one that is looked at.
+    /// Answers calls: each completion replaces the call of its process. It takes no memory. Most acts answer no call, and the early return
+    /// then makes no room for one.
     pub fn answer(&mut self, answers: Vec<(Proc, Completion)>)
         ensures { self.new ≡ all_instead self.old answers.items }
     {
@@ -213,7 +213,7 @@ impl Calls {
         }
     }
 
-    /// Each of these comes in the place of the call that its process is in.
+    /// Replaces the call of each of these processes by its completion.
     #[inline(never)]
     fn replace_all(&mut self, answers: Vec<(Proc, Completion)>)
         ensures { self.new ≡ all_instead self.old answers.items }

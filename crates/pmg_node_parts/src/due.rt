@@ -1,4 +1,4 @@
-//! What is to be sent, and how the marks go with it.
+//! The due frames, and the marks that they set.
 ghost use Rattle.std.specs.Prelude.{◌≡◌, ◌++◌, true, is_some, length, take, IfOk, OnOk, OnErr};
 ghost use Rattle.std.specs.Option.{option_map, option_to_list};
 ghost use Rattle.pmg_dmodex.specs.Levels.{node_level, with_level};
@@ -15,7 +15,7 @@ use pmg_value::{NodeId, Proc};
 use std::alloc::{AllocError, Global};
 use std::collections::VecDeque;
 
-/// A mark as it was before it was set.
+/// A mark before it was set.
 #[derive(Drop)]
 pub struct MarkUndo {
     pub proc: Proc,
@@ -23,7 +23,7 @@ pub struct MarkUndo {
     pub level: u64,
 }
 
-/// Sets a mark as it was before.
+/// Sets a mark back to its earlier level.
 fn set_one_back(marks: &mut Marks, mark: MarkUndo)
     requires { is_some (node_level marks.old mark.proc mark.node) ≡ true }
     ensures { marks.new ≡ with_level marks.old mark.proc mark.node mark.level }
@@ -31,7 +31,7 @@ fn set_one_back(marks: &mut Marks, mark: MarkUndo)
     let _ = marks.set(mark.node, &mark.proc, mark.level);
 }
 
-/// Sets the marks as they were before, the last one first.
+/// Sets the marks back to their earlier levels, the last one first.
 fn set_back(marks: &mut Marks, mut before: Vec<MarkUndo>)
     requires { AreSet marks.old before.items }
     ensures { marks.new ≡ marks_back marks.old before.items }
@@ -41,7 +41,7 @@ fn set_back(marks: &mut Marks, mut before: Vec<MarkUndo>)
     }
 }
 
-/// The frame that is sent for what is due, if any: what a node has already is not sent.
+/// Returns the frame for a due item; `None` if the node already has the commits.
 fn frame_for(own: &LocalCommits, marks: &Marks, due: ToSend) -> Result<Option<Sent>, AllocError>
     ensures { IfOk result (λ sent. sent ≡ frame_for (sealed_of own.now) marks.now due) }
 {
@@ -61,15 +61,15 @@ fn frame_for(own: &LocalCommits, marks: &Marks, due: ToSend) -> Result<Option<Se
     }
 }
 
-/// Frames on their way, and the marks that they set, as they were before.
+/// Frames on their way, and the earlier levels of the marks that they set.
 #[derive(Drop)]
 struct Going {
     frames: VecDeque<Sent>,
     before: Vec<MarkUndo>,
 }
 
-/// Sets the mark of the node for the process, where there is one, and keeps what it was before. A node has a mark for each process
-/// whose commits it sends, at each other node.
+/// Sets the mark of the node for the process, if there is one, and keeps its earlier level. For each process whose commits a node sends, it
+/// has a mark at each other node.
 fn set_level(
     marks: &mut Marks,
     node: NodeId,
@@ -94,7 +94,7 @@ fn set_level(
     Ok(())
 }
 
-/// The process and the level of the mark that the frame sets, if it sets one.
+/// Returns the process and the level of the mark that the frame sets, if it sets one.
 fn mark_by(frame: &Frame) -> Option<(&Proc, u64)>
     ensures { option_map (λ m. (m.0.now, m.1)) result ≡ mark_by frame.now }
 {
@@ -106,7 +106,7 @@ fn mark_by(frame: &Frame) -> Option<(&Proc, u64)>
     }
 }
 
-/// Sets the mark that the frame sets, and keeps what it was before.
+/// Sets the mark of the frame, and keeps its earlier level.
 fn set_mark(marks: &mut Marks, sent: &Sent, before: &mut Vec<MarkUndo>) -> Result<(), AllocError>
     ensures ok { OnOk result (marks.new ≡ marked marks.old sent.now) }
     ensures back { marks_back marks.new before.new.items ≡ marks_back marks.old before.old.items }
@@ -119,7 +119,7 @@ fn set_mark(marks: &mut Marks, sent: &Sent, before: &mut Vec<MarkUndo>) -> Resul
     Ok(())
 }
 
-/// Sets the mark of a node that asks for commits: it says what it knows.
+/// Sets the mark of a node that asks for commits, because its request says its level.
 fn set_asked(
     marks: &mut Marks,
     asked: Option<&CommitAsk>,
@@ -136,7 +136,7 @@ fn set_asked(
     Ok(())
 }
 
-/// Sends what is due, if anything.
+/// Sends the frame for a due item, if there is one.
 fn send_one(
     own: &LocalCommits,
     marks: &mut Marks,
@@ -156,7 +156,7 @@ fn send_one(
     Ok(())
 }
 
-/// Sends what is due, one after the other.
+/// Sends the due items, one after the other.
 fn send_each(
     own: &LocalCommits,
     marks: &mut Marks,
@@ -174,7 +174,7 @@ fn send_each(
     Ok(())
 }
 
-/// Sends all that is due, once the mark is set that a node's request for commits sets.
+/// Sends all due items, after the mark of a node's request for commits is set.
 fn send_after(
     own: &LocalCommits,
     marks: &mut Marks,
@@ -193,15 +193,15 @@ fn send_after(
     Ok(())
 }
 
-/// Frames that were put after others, and the marks that they set, as they were before.
+/// Frames that were appended, and the earlier levels of the marks that they set.
 #[derive(Drop)]
 pub struct SendUndo {
     start: usize,
     before: Vec<MarkUndo>,
 }
 
-/// Puts all that is due after the frames that go out, once the mark is set that a node's request for commits sets. Where an
-/// allocation fails, the frames and the marks are as before.
+/// Appends the frames of all due items to the frames that go out, after the mark of a node's request for commits is set. If an allocation
+/// fails, the frames and the marks are unchanged.
 pub fn hand_out(
     alloc: Global,
     own: &LocalCommits,
@@ -238,7 +238,7 @@ pub fn hand_out(
     })
 }
 
-/// Takes back what was put after the frames that go out, and the marks.
+/// Removes the appended frames again, and sets the marks back.
 pub fn rollback(marks: &mut Marks, out: &mut VecDeque<Sent>, handed: SendUndo)
     requires set { AreSet marks.old handed.before.items }
     ensures frames { out.new.items ≡ take handed.start out.old.items }

@@ -1,5 +1,5 @@
-//! What a node holds of its own processes, and what becomes due: their commits, the calls that they are in, the answers that
-//! come with a change, and the frames to be sent with the marks of what each other node has.
+//! The state that a node has of its own processes, and the frames that become due: the processes' commits and calls, the answers that come
+//! with a change, and the frames to send with the marks of each other node.
 #![tactic(auto)]
 
 mod ahead;

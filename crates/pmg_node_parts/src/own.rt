@@ -20,7 +20,7 @@ use pmg_value::{Key, Proc, Refusal};
 use std::alloc::{AllocError, Global};
 use std::marker::Model;
 
-/// What a node's own processes sealed, and the process sets.
+/// The commits of a node's own processes, and the process sets.
 pub struct LocalCommits {
     pub sealers: Sealers,
     pub sets: Sets,
@@ -43,7 +43,7 @@ impl Model for LocalCommits {
 }
 
 impl LocalCommits {
-    /// How many commits the process made; of the one that stands for the group's host, how many changes of the sets.
+    /// Returns the number of the process's commits; for the process that represents the group's host, the number of changes of the sets.
     #[tactic(auto, unfolding(pmg_node_model::specs::Holdings::sealer_in))]
     pub fn level(&self, proc: &Proc) -> u64
         ensures value { result ≡ (sealed_of self.now proc.now).level }
@@ -56,7 +56,7 @@ impl LocalCommits {
         self.sealers.level(proc)
     }
 
-    /// Whether the process, which is not the one that stands for the group's host, has ended.
+    /// Returns whether the process, which does not represent the group's host, has ended.
     #[tactic(auto, unfolding(pmg_node_model::specs::Holdings::sealer_in))]
     pub fn has_ended(&self, proc: &Proc) -> bool
         requires { is_host proc.now ≡ false }
@@ -65,8 +65,8 @@ impl LocalCommits {
         self.sealers.has_ended(proc)
     }
 
-    /// What the process's commits above a number sealed for a reach of other processes. As there are such commits, nothing but
-    /// memory can lack.
+    /// Returns the piece of the process's commits above a number, for a reach of other processes. Because these commits exist, only an
+    /// allocation can fail.
     #[tactic(auto, unfolding(pmg_node_model::specs::Holdings::sealer_in))]
     pub fn piece(&self, proc: &Proc, from: u64, reach: Reach) -> Result<Piece, AllocError>
         requires others { is_other reach ≡ true }
@@ -84,7 +84,7 @@ impl LocalCommits {
         }
     }
 
-    /// The process's next commit seals the batch; what there was before is told.
+    /// Seals the batch as the process's next commit, and returns the earlier state.
     #[tactic(auto, unfolding(pmg_node_model::specs::Holdings::sealer_in))]
     pub fn commit(&mut self, proc: &Proc, batch: &Batch) -> Result<SealerUndo, Refusal>
         requires client { is_host proc.now ≡ false }
@@ -97,7 +97,7 @@ impl LocalCommits {
         self.sealers.commit(proc, batch)
     }
 
-    /// The process's last commit is taken back.
+    /// Takes the process's last commit back.
     #[tactic(auto, unfolding(pmg_node_model::specs::Holdings::sealer_in))]
     pub fn rollback(&mut self, proc: &Proc, before: SealerUndo)
         requires client { is_host proc.now ≡ false }
@@ -108,7 +108,7 @@ impl LocalCommits {
         self.sealers.rollback(proc, before);
     }
 
-    /// How many changes of the sets were made.
+    /// Returns the number of changes of the sets.
     pub fn sets_level(&self) -> u64
         ensures value { result ≡ self.now.sets.level }
         ensures bound { result ≤ MAX_COMMIT }
@@ -116,7 +116,7 @@ impl LocalCommits {
         self.sets.level()
     }
 
-    /// Defines the set of these processes; what there was before is told.
+    /// Defines the set of these processes, and returns the earlier state.
     pub fn define(&mut self, name: &Key, members: Vec<Proc>) -> Result<SealerUndo, Refusal>
         ensures before { Gives (λ b. sealer_back self.new.sets b) result (first_of (define_cause self.old.sets name.now members.items) self.old.sets) }
         ensures fits { IfOk result (λ b. AreSetsBack self.new.sets b) }
@@ -126,7 +126,7 @@ impl LocalCommits {
         self.sets.put_set(name, members)
     }
 
-    /// Deletes the set of that name; what there was before is told.
+    /// Deletes the set of that name, and returns the earlier state.
     pub fn delete(&mut self, name: &Key) -> Result<SealerUndo, Refusal>
         ensures before { Gives (λ b. sealer_back self.new.sets b) result (first_of (delete_cause self.old.sets name.now) self.old.sets) }
         ensures fits { IfOk result (λ b. AreSetsBack self.new.sets b) }
@@ -136,7 +136,7 @@ impl LocalCommits {
         self.sets.remove_set(name)
     }
 
-    /// The last change of the sets is taken back.
+    /// Takes the last change of the sets back.
     pub fn take_sets_back(&mut self, before: SealerUndo)
         requires { AreSetsBack self.old.sets before }
         ensures { self.new ≡ with_sets self.old (sealer_back self.old.sets before) }
@@ -144,7 +144,7 @@ impl LocalCommits {
         self.sets.rollback(before);
     }
 
-    /// Returns a copy, which sealed the same and has the same sets.
+    /// Returns a copy with equal commits and equal sets.
     pub fn copy(&self, alloc: Global) -> Result<LocalCommits, AllocError>
         ensures { IfOk result (λ copy. copy ≡ self.now) }
     {

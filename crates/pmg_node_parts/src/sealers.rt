@@ -16,7 +16,8 @@ use std::alloc::{AllocError, Global};
 use std::collections::BTreeMap;
 use std::marker::Model;
 
-/// What each own process of a node sealed. Whether one of them may have ended is kept beside, so that mostly none is looked up for that.
+/// The sealer of each own process of a node. A flag says whether one of them may have ended, so that most queries for an end need no
+/// look-up.
 #[derive(Drop)]
 pub struct Sealers {
     rows: BTreeMap<Proc, Sealer>,
@@ -38,7 +39,7 @@ impl Model for Sealers {
 }
 
 impl Sealers {
-    /// Nothing of nobody.
+    /// Makes an empty map.
     pub fn new(alloc: Global) -> Sealers
         ensures { result ≡ finite.empty }
     {
@@ -48,7 +49,7 @@ impl Sealers {
         }
     }
 
-    /// The process is one of them, and made no commit.
+    /// Adds the sealer of the process, which made no commit.
     pub fn add(&mut self, proc: &Proc, sealer: Sealer) -> Result<(), AllocError>
         ensures ok { OnOk result (self.new ≡ finite.insert self.old proc.now sealer) }
         ensures err { OnErr result (self.new ≡ self.old) }
@@ -58,14 +59,14 @@ impl Sealers {
         Ok(())
     }
 
-    /// What the process sealed, if it is one of them.
+    /// Returns the sealer of the process, if there is one.
     pub fn get(&self, proc: &Proc) -> Option<&Sealer>
         ensures { option_map (λ z. z.now) result ≡ finite.get self.now proc.now }
     {
         self.rows.get(proc)
     }
 
-    /// How many commits the process made.
+    /// Returns the number of the process's commits.
     pub fn level(&self, proc: &Proc) -> u64
         ensures value { result ≡ (sealed_by self.now proc.now).level }
         ensures bound { result ≤ MAX_COMMIT }
@@ -77,7 +78,7 @@ impl Sealers {
         }
     }
 
-    /// Whether the process has ended.
+    /// Returns whether the process has ended.
     pub fn has_ended(&self, proc: &Proc) -> bool
         ensures { result ≡ (sealed_by self.now proc.now).ended }
     {
@@ -90,7 +91,7 @@ impl Sealers {
         }
     }
 
-    /// What an own process's commits above a number sealed for a reach of other processes.
+    /// Returns the piece of an own process's commits above a number, for a reach of other processes.
     pub fn piece(&self, proc: &Proc, from: u64, reach: Reach) -> Result<Piece, Refusal>
         requires { is_some (finite.get self.now proc.now) ≡ true }
         ensures { Gives (λ p. p) result (piece_answer (sealed_by self.now proc.now) from reach) }
@@ -101,7 +102,7 @@ impl Sealers {
         }
     }
 
-    /// The own process's next commit seals the batch; what there was before is told.
+    /// Seals the batch as the own process's next commit, and returns the earlier state.
     pub fn commit(&mut self, proc: &Proc, batch: &Batch) -> Result<SealerUndo, Refusal>
         requires { is_some (finite.get self.old proc.now) ≡ true }
         ensures before { Gives (λ b. sealer_back (sealed_by self.new proc.now) b) result (commit_answer (sealed_by self.old proc.now) batch.now) }
@@ -115,7 +116,7 @@ impl Sealers {
         Err(Refusal::NoMemory)
     }
 
-    /// The own process ends, which is its last commit; what there was before is told, if it had not ended.
+    /// Ends the own process by its last commit, and returns the earlier state, if it had not ended.
     pub fn end(&mut self, proc: &Proc) -> Result<Option<SealerUndo>, AllocError>
         requires { is_some (finite.get self.old proc.now) ≡ true }
         ensures before { IfOk result (λ b. end_back (sealed_by self.new proc.now) b ≡ sealed_by self.old proc.now) }
@@ -130,7 +131,7 @@ impl Sealers {
         Err(AllocError)
     }
 
-    /// The own process's last commit is taken back.
+    /// Takes the own process's last commit back.
     pub fn rollback(&mut self, proc: &Proc, before: SealerUndo)
         requires own { is_some (finite.get self.old proc.now) ≡ true }
         requires fits { CanRollBack (sealed_by self.old proc.now) before }
@@ -142,7 +143,7 @@ impl Sealers {
         }
     }
 
-    /// Returns a copy, which sealed the same. It keeps the allocator.
+    /// Returns a copy with equal sealers. It keeps the allocator.
     pub fn copy(&self, alloc: Global) -> Result<Sealers, AllocError>
         ensures { IfOk result (λ copy. copy ≡ self.now) }
     {

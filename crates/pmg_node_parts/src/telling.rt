@@ -1,4 +1,4 @@
-//! Whom a node tells what.
+//! The receivers of a node's headers and commits.
 ghost use Rattle.std.specs.Prelude.{◌≡◌, ◌<◌, ◌==◌, ◌++◌, ℕ, map, IfOk, OnOk};
 ghost use Rattle.std.specs.List.{flat_map, list_any};
 ghost use Rattle.pmg_jobinfo.specs.Jobs.{AreJobs, home_of};
@@ -16,7 +16,7 @@ use pmg_scope::Reach;
 use pmg_value::{NodeId, Proc};
 use std::alloc::{AllocError, Global};
 
-/// The nodes of the group but this one, rising.
+/// Returns the other nodes of the group, rising.
 pub fn peers(registry: &Registry, id: NodeId) -> Result<Vec<NodeId>, AllocError>
     ensures nodes { IfOk result (λ nodes. nodes.items ≡ peers registry.now id) }
     ensures jobs { AreJobs registry.now }
@@ -32,7 +32,7 @@ pub fn peers(registry: &Registry, id: NodeId) -> Result<Vec<NodeId>, AllocError>
     Ok(nodes)
 }
 
-/// Whether a participant of the fence is at home at the node.
+/// Returns whether a participant of the fence is at home at the node.
 pub fn takes_part(registry: &Registry, name: &FenceName, node: NodeId) -> bool
     ensures { result ≡ list_any (λ q. home_of registry.now q == node) (participants_of name.now) }
 {
@@ -44,7 +44,7 @@ pub fn takes_part(registry: &Registry, name: &FenceName, node: NodeId) -> bool
     false
 }
 
-/// The other nodes that have a participant in the fence, rising.
+/// Returns the other nodes that have a participant in the fence, rising.
 pub fn peers_in(
     registry: &Registry,
     id: NodeId,
@@ -62,7 +62,7 @@ pub fn peers_in(
     Ok(nodes)
 }
 
-/// The commits of each process that the header lists are due to the node.
+/// Makes the commits of each process that the header lists due to the node.
 fn tell_commits(dues: &mut Vec<ToSend>, node: NodeId, header: &Header) -> Result<(), AllocError>
     ensures { OnOk result (dues.new.items ≡ dues.old.items ++ pieces_by node header.now.locals) }
 {
@@ -72,7 +72,7 @@ fn tell_commits(dues: &mut Vec<ToSend>, node: NodeId, header: &Header) -> Result
     Ok(())
 }
 
-/// The header is due to the node, and where the fence collects data, the commits of each process that it lists.
+/// Makes the header due to the node, and, if the fence collects data, the commits of each process that it lists.
 pub fn tell(dues: &mut Vec<ToSend>, node: NodeId, header: &Header) -> Result<(), AllocError>
     ensures { OnOk result (dues.new.items ≡ dues.old.items ++ telling_by header.now node) }
 {
@@ -86,7 +86,7 @@ pub fn tell(dues: &mut Vec<ToSend>, node: NodeId, header: &Header) -> Result<(),
     Ok(())
 }
 
-/// The header is due to each other node of the fence.
+/// Makes the header due to each other node of the fence.
 pub fn announce(
     registry: &Registry,
     id: NodeId,
@@ -101,7 +101,7 @@ pub fn announce(
     Ok(())
 }
 
-/// What the process that stands for the group's host sealed is due to each other node, from its first commit on.
+/// Returns all commits of the process that represents the group's host, due to each other node.
 pub fn spread(
     registry: &Registry,
     id: NodeId,
@@ -121,7 +121,7 @@ pub fn spread(
     Ok(dues)
 }
 
-/// What the process's commits above a level sealed is due to the node, if there are any.
+/// Returns the process's commits above a level, due to the node, if there are any.
 pub fn answer_commits(
     alloc: Global,
     own: &LocalCommits,
@@ -141,7 +141,7 @@ pub fn answer_commits(
     Ok(dues)
 }
 
-/// What the process's commits sealed after those that they know is due to the nodes that wait for its next one.
+/// Returns the process's commits for the nodes that wait for its next one, due to each node above its known level.
 pub fn tell_waiting(
     alloc: Global,
     own: &LocalCommits,

@@ -1,4 +1,4 @@
-//! Who waits, by what it waits for.
+//! An index of the waiting processes, by the process or the fence that they wait for.
 ghost use Rattle.std.specs.Prelude.{◌≡◌, ◌==◌, map, IfOk, OnOk, OnErr};
 ghost use Rattle.std.specs.FinMap as finite;
 ghost use Rattle.std.specs.FinSet as set;
@@ -15,7 +15,7 @@ use std::alloc::{AllocError, Global};
 use std::collections::{BTreeMap, BTreeSet};
 use std::marker::Model;
 
-/// Processes, each once.
+/// A set of processes.
 #[derive(Drop)]
 struct Procs {
     alloc: Global,
@@ -34,7 +34,7 @@ impl Model for Procs {
 }
 
 impl Procs {
-    /// No processes. It keeps the allocator.
+    /// Makes an empty set. It keeps the allocator.
     fn new(alloc: Global) -> Procs
         ensures { result ≡ set.empty }
     {
@@ -44,14 +44,14 @@ impl Procs {
         }
     }
 
-    /// Whether there are none.
+    /// Returns whether the set is empty.
     fn is_empty(&self) -> bool
         ensures { result ≡ (set.len self.now == 0) }
     {
         self.items.len() == 0
     }
 
-    /// Puts the process among them.
+    /// Adds the process.
     fn insert(&mut self, proc: Proc) -> Result<(), AllocError>
         ensures ok { OnOk result (self.new ≡ set.insert self.old proc) }
         ensures err { OnErr result (self.new ≡ self.old) }
@@ -60,14 +60,14 @@ impl Procs {
         Ok(())
     }
 
-    /// Takes the process out.
+    /// Removes the process.
     fn remove(&mut self, proc: &Proc)
         ensures { self.new ≡ set.remove self.old proc.now }
     {
         let _ = self.items.remove(proc);
     }
 
-    /// The processes in their order.
+    /// Returns the processes in their order.
     fn list(&self) -> Result<Vec<Proc>, AllocError>
         ensures { IfOk result (λ procs. procs.items ≡ in_order self.now) }
     {
@@ -98,7 +98,7 @@ impl Model for Waiters {
 }
 
 impl Waiters {
-    /// Nobody waits. It keeps the allocator.
+    /// Makes an empty map: no process waits. It keeps the allocator.
     pub fn new(alloc: Global) -> Waiters
         ensures { result ≡ finite.empty }
     {
@@ -108,7 +108,7 @@ impl Waiters {
         }
     }
 
-    /// The process waits in the fence. Where an allocation fails, nothing changes.
+    /// Adds the process to the processes that wait in the fence. If an allocation fails, nothing changes.
     pub fn insert(&mut self, name: &FenceName, proc: &Proc) -> Result<(), AllocError>
         ensures ok { OnOk result (self.new ≡ waiting_too self.old name.now proc.now) }
         ensures err { OnErr result (self.new ≡ self.old) }
@@ -123,7 +123,7 @@ impl Waiters {
         Ok(())
     }
 
-    /// Takes the process out of those that wait in the fence, and tells whether nobody is left.
+    /// Removes the process from the processes that wait in the fence, and returns whether no process is left.
     fn take(&mut self, name: &FenceName, proc: &Proc) -> bool
         ensures left { result ≡ (set.len (set.remove (waiters_in self.old name.now) proc.now) == 0) }
         ensures procs { self.new ≡ changed_at self.old name.now (set.remove (waiters_in self.old name.now) proc.now) }
@@ -135,14 +135,14 @@ impl Waiters {
         procs.is_empty()
     }
 
-    /// The fence is listed no longer.
+    /// Removes the fence.
     fn unlist(&mut self, name: &FenceName)
         ensures { self.new ≡ finite.remove self.old name.now }
     {
         let _ = self.rows.remove(name);
     }
 
-    /// The process waits in the fence no longer. It takes no memory.
+    /// Removes the process from the processes that wait in the fence. It takes no memory.
     pub fn remove(&mut self, name: &FenceName, proc: &Proc)
         ensures { self.new ≡ waiting_less self.old name.now proc.now }
     {
@@ -151,7 +151,7 @@ impl Waiters {
         }
     }
 
-    /// The processes that wait in the fence, in their order.
+    /// Returns the processes that wait in the fence, in their order.
     pub fn list(&self, name: &FenceName) -> Result<Vec<Proc>, AllocError>
         ensures { IfOk result (λ procs. procs.items ≡ in_order (waiters_in self.now name.now)) }
     {
@@ -161,7 +161,7 @@ impl Waiters {
         }
     }
 
-    /// The fences in which processes wait, in the order of their names.
+    /// Returns the fences in which processes wait, in the order of their names.
     pub fn names(&self) -> Result<Vec<&FenceName>, AllocError>
         ensures { IfOk result (λ names. map (λ f. f.now) names.items ≡ finite.keys self.now) }
     {
@@ -173,8 +173,8 @@ impl Waiters {
     }
 }
 
-/// Who waits, by what it waits for: gets by the process whose key they ask for, and processes by the fence that they are in. So
-/// what changes for one process or one fence is looked for at the cost of those that wait for it.
+/// An index of the waiting processes: gets by the process whose key they ask for, and processes by the fence that they are in. A change of
+/// one process or fence then costs only as much as the processes that wait for it.
 pub struct Waiting {
     pub gets: Parked,
     pub fences: Waiters,
@@ -189,7 +189,7 @@ impl Drop for Waiting {
 impl Waiting {
     ghost use Rattle.pmg_node_parts.specs.Waiting.{with_waiter, without_call};
 
-    /// Nobody waits.
+    /// Makes an empty index.
     pub fn new(alloc: Global) -> Waiting
         ensures gets { result.gets ≡ finite.empty }
         ensures fences { result.fences ≡ finite.empty }
@@ -200,7 +200,7 @@ impl Waiting {
         }
     }
 
-    /// The process, in this call, stands by what it waits for, if it waits. Where an allocation fails, nothing changes.
+    /// Adds the process, in this call, if it waits. If an allocation fails, nothing changes.
     pub fn add(&mut self, proc: &Proc, call: &Call) -> Result<(), AllocError>
         ensures ok { OnOk result (self.new ≡ with_waiter self.old proc.now (standing_of call.now)) }
         ensures err { OnErr result (self.new ≡ self.old) }
@@ -213,7 +213,7 @@ impl Waiting {
         }
     }
 
-    /// The process, which was in this call, stands there no longer. It takes no memory.
+    /// Removes the process, which was in this call. It takes no memory.
     pub fn remove(&mut self, proc: &Proc, call: &Call)
         ensures { self.new ≡ without_call self.old proc.now (standing_of call.now) }
     {
@@ -225,7 +225,7 @@ impl Waiting {
         }
     }
 
-    /// The process was to come to be in the call, and did not.
+    /// Removes the process again, which did not enter the call.
     pub fn rollback(&mut self, proc: Proc, call: Call)
         ensures { self.new ≡ without_call self.old proc (standing_of call) }
     {

@@ -1,4 +1,4 @@
--- What the words of a line say: numbers, processes, scopes, values.
+-- The meaning of the words of a line: numbers, processes, scopes, values.
 use Rattle.std.specs.Prelude.{ℕ, zero, suc, ◌+◌, ◌*◌, ◌-◌, min, Bool, true, false, nat_le, List, [], ◌∷◌, codes, Option, Some, None, if◌then◌else◌}
 use Rattle.std.specs.Char.{is_ascii_digit}
 use Rattle.std.specs.List.{fold, list_all}
@@ -19,11 +19,11 @@ use Rattle.pmg_script.specs.Lines.{Left, read_word, read_words, read_as, ◌>>=�
 abbrev pub decimal_value : List ℕ → ℕ
 decimal_value digits = fold (λ number digit. number * 10 + (digit - 48)) 0 digits
 
--- The greatest number of 64 bits stands for each greater one: nothing has such a number.
+-- The greatest number of 64 bits replaces each greater one: nothing has such a number.
 abbrev pub bounded : ℕ → ℕ
 bounded number = min number 18446744073709551615
 
--- a number is digits alone
+-- a number has only digits
 unfoldable pub number_in : List ℕ → Option ℕ
 number_in word = if list_all is_ascii_digit word then Some (bounded (decimal_value word)) else None
 
@@ -61,7 +61,7 @@ value_in word = do
   bytes ← result_ok (decode_of word)
   result_ok (whole_value bytes)
 
--- a process: a word that names its namespace, whatever it is, and its rank
+-- a process: a word that names its namespace, with any bytes, and its rank
 unfoldable pub read_proc_words : Left → Option (Proc × Left)
 read_proc_words left = do
   nspace ← read_word left
@@ -93,10 +93,10 @@ procs_in (nspace ∷ rank ∷ words) = do
   others ← procs_in words
   Some (record { nspace = nspace; rank = first } ∷ others)
 
--- all that is left, as numbers
+-- all words that are left, as numbers
 unfoldable pub all_numbers : Left → Option (List ℕ)
 all_numbers left = read_words left >>= as_numbers
 
--- all that is left, as processes
+-- all words that are left, as processes
 unfoldable pub read_proc_list : Left → Option (List Proc)
 read_proc_list left = read_words left >>= procs_in

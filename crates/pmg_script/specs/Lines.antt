@@ -10,7 +10,7 @@ use Rattle.pmg_script.specs.declared.lines.LineFault.TheVariants as faults
 abbrev pub has_byte : ℕ → ℕ → List ℕ → Bool
 has_byte back byte line = nat_le back (length line) && (slice_index line (length line - back) == byte)
 
--- what a line holds: all of it but the LF that ends it, and a CR before that
+-- the content of a line: all of it except the LF that ends it, and a CR before the LF
 unfoldable pub content : List ℕ → List ℕ
 content line =
     if has_byte 1 10 line then (if has_byte 2 13 line then take (length line - 2) line else take (length line - 1) line) else line
@@ -21,17 +21,16 @@ content line =
 abbrev pub is_blank : ℕ → Bool
 is_blank byte = byte == 32
 
--- What is left of a line after some of its words: what stands after the blank that ended the last of them; nothing, where
--- that one ended the line.
+-- The rest of a line after some of its words: the text after the blank that ended the last word; `None` if this word ended the line.
 abbrev pub Left : Type 0
 Left = Option (List ℕ)
 
--- the word before the blank, and what is left after it
+-- the word before the blank, and the rest after it
 abbrev pub parted : List ℕ → Option ℕ → List ℕ × Left
 parted text None = (text, None)
 parted text (Some at) = (take at text, Some (drop (suc at) text))
 
--- the word and what is left after it, unless the word is empty
+-- the word and the rest after it, unless the word is empty
 abbrev pub unless_empty : List ℕ × Left → Option (List ℕ × Left)
 unless_empty part = if length part.0 == 0 then None else Some part
 
@@ -49,7 +48,7 @@ read_end (Some text) = None
 abbrev pub is_empty : List ℕ → Bool
 is_empty word = length word == 0
 
--- all words that are left, none of which is empty
+-- all words that are left, without empty words
 unfoldable pub read_words : Left → Option (List (List ℕ))
 read_words None = Some []
 read_words (Some text) = if list_any is_empty (slice_split is_blank text) then None else Some (slice_split is_blank text)
@@ -60,24 +59,24 @@ abbrev pub ◌>>=◌ : {A B : Type 0} → Option A → (A → Option B) → Opti
 None >>= next = None
 (Some x) >>= next = next x
 
--- the next word, as what it says
+-- the next word, by its meaning
 abbrev pub read_as : {A : Type 0} → (List ℕ → Option A) → Left → Option (A × Left)
 read_as says left = do
   word ← read_word left
   x ← says word.0
   Some (x, word.1)
 
--- Reading fails so: the line has no such form, or an allocation failed, which no definition says.
+-- Reading fails because the line does not have such a form, or because an allocation failed, which no definition describes.
 abbrev pub LineFails : {Y : Type 0} → LineFault → Option Y → Type 0
 LineFails faults.Malformed read = read ≡ None
 LineFails faults.NoMemory read = Unit {0}
 
--- What a reader of words answered, seen by view, and what it left of the line, are what reading gives.
+-- The answer of a reader of words, seen by view, and its rest of the line are the result of reading.
 abbrev pub ReadsWords : {X Y : Type 0} → (X → Y) → Result X LineFault → Left → Option (Y × Left) → Type 0
 ReadsWords view (Ok x) new read = read ≡ Some (view x, new)
 ReadsWords view (Err e) new read = LineFails e read
 
--- What a reader of all that is left answered, seen by view, is what reading gives.
+-- The answer of a reader of all words that are left, seen by view, is the result of reading.
 abbrev pub ReadsAllWords : {X Y : Type 0} → (X → Y) → Result X LineFault → Option Y → Type 0
 ReadsAllWords view (Ok x) read = read ≡ Some (view x)
 ReadsAllWords view (Err e) read = LineFails e read

@@ -1,4 +1,4 @@
--- Reading a script line by line.
+-- The reader of a script, line by line.
 use Rattle.std.specs.Prelude.{◌≡◌, ℕ, ◌+◌, ◌≤◌, ◌==◌, Bool, true, false, not, List, [], ◌∷◌, ◌++◌, length, Result, Ok, Err, Option, OnSome, if◌then◌else◌}
 use Rattle.std.specs.Io.KnownBytes.{Consumes, IsAtEnd}
 use Rattle.std.specs.List.{list_all}
@@ -17,7 +17,7 @@ abbrev pub onto : ℕ → List (List ℕ) → List (List ℕ)
 onto byte [] = (byte ∷ []) ∷ []
 onto byte (line ∷ others) = (byte ∷ line) ∷ others
 
--- the lines of a text, each with the LF that ends it; the last one may have none
+-- the lines of a text, each with the LF that ends it; the last one may lack the LF
 unfoldable pub lines : List ℕ → List (List ℕ)
 lines [] = []
 lines (byte ∷ bytes) = if is_end byte then (byte ∷ []) ∷ lines bytes else onto byte (lines bytes)
@@ -32,28 +32,28 @@ pub record IsWhole (line : List ℕ) : Type 0 where
   pub unended : IsUnended body
   pub ends : line ≡ body ++ 10 ∷ []
 
--- the line goes up to the limit of a script, and one byte more stands there
+-- the line goes up to the limit of a script, and one more byte follows
 pub record IsPastLimit (start : ℕ) (old new : Option (List ℕ)) (line : List ℕ) : Type 0 where
   pub limit : start + length line ≡ INPUT_LIMIT
   pub unended : IsUnended line
   pub byte : ℕ
   pub read : Consumes old new (line ++ byte ∷ [])
 
--- why no line was read: the reader failed, an allocation failed, or the script is too long
+-- the cause why no line was read: the reader failed, an allocation failed, or the script is too long
 abbrev pub NoLine : ℕ → Option (List ℕ) → Option (List ℕ) → List ℕ → Failure → Type 0
 NoLine start old new line Read = IsUnended line × Consumes old new line
 NoLine start old new line (Refused NoMemory) = Unit {0}
 NoLine start old new line (Refused (BadFrame f)) = (f ≡ too_much_input) × IsPastLimit start old new line
 NoLine start old new line _ = ⊥
 
--- What reading the next line did to what the reader has left, where the line begins at this byte of the script: it took the line with
--- its LF; or the last line, which has none.
+-- The effect of reading the next line, which begins at this byte of the script, on the reader. It took the line with its LF; or the last
+-- line, which has no LF.
 abbrev pub NextLine : ℕ → Option (List ℕ) → Option (List ℕ) → List ℕ → Result Bool Failure → Type 0
 NextLine start old new line (Ok true) = IsWhole line × Consumes old new line
 NextLine start old new line (Ok false) = IsUnended line × (Consumes old new line × OnSome old (IsAtEnd new))
 NextLine start old new line (Err e) = NoLine start old new line e
 
--- one read a byte, and one more unless a line ended
+-- the reads are at most one for each byte, and one more unless a line ended
 abbrev pub CountsReads : ℕ → ℕ → ℕ → Result Bool Failure → Type 0
 CountsReads old new count (Ok true) = new ≤ old + count
 CountsReads old new count (Ok false) = new ≤ old + count + 1

@@ -1,4 +1,4 @@
--- What a whole script does: which of its lines were done, what was written, and why it ended.
+-- The run of a whole script: the lines that were done, the text that was written, and the reason why it ended.
 use Rattle.std.specs.Prelude.{◌≡◌, ◌⊎◌, ℕ, ◌+◌, ◌≤◌, ◌<◌, Bool, true, false, List, [], ◌∷◌, ◌++◌, length, take, Option, Some, None, Result, Ok, Err}
 use Rattle.std.specs.Io.KnownBytes.{Appends, Consumes}
 use Rattle.pmg_value.specs.declared.refusal.Cause.TheVariants as causes
@@ -19,17 +19,17 @@ abbrev pub joined_lines : List (List ℕ) → List ℕ
 joined_lines [] = []
 joined_lines (line ∷ others) = line ++ joined_lines others
 
--- the fault of a line that has no form of a script's lines, or stands out of order
+-- the fault of a line that does not have the form of a script's line, or is out of order
 abbrev pub no_line : ℕ → Fault
 no_line offset = fault offset causes.Script
 
--- the reader gave the lines that were done, and then no more than a part of the next one
+-- the reader gave the lines that were done, and then at most a part of the next one
 pub record IsCaughtUp (text : List ℕ) (left : Option (List ℕ)) (done : List (List ℕ)) : Type 0 where
   pub part : List ℕ
   pub unended : IsUnended part
   pub read : Consumes (Some text) left (joined_lines done ++ part)
 
--- the script is too long, and each line was done that ends before the limit
+-- the script is too long, and each line that ends before the limit was done
 pub record IsTooLong (text : List ℕ) (left : Option (List ℕ)) (done : List (List ℕ)) : Type 0 where
   pub part : List ℕ
   pub unended : IsUnended part
@@ -37,8 +37,8 @@ pub record IsTooLong (text : List ℕ) (left : Option (List ℕ)) (done : List (
   pub byte : ℕ
   pub read : Consumes (Some text) left (joined_lines done ++ (part ++ byte ∷ []))
 
--- how one state answers a line, by its content, with a text, and what it is then; which lines it takes for none; and where it is over,
--- after which no line is done
+-- A player: the relation of a state, a line's content, the reply's text and the next state; the lines that it does not accept; and the
+-- states after which no line is done.
 module _ {S : Type 0} (plays : S → List ℕ → List ℕ → S → Type 0) (stops : S → List ℕ → Type 0) (over : S → Bool) where
   -- These lines, one after another, lead from one state to another, and are answered with this text.
   unfoldable pub Plays : S → List (List ℕ) → List ℕ → S → Type 0
@@ -46,12 +46,12 @@ module _ {S : Type 0} (plays : S → List ℕ → List ℕ → S → Type 0) (st
   Plays s (line ∷ others) told v =
       (over s ≡ false) × (mid : S) × (now : List ℕ) × (later : List ℕ) × plays s (content line) now mid × Plays mid others later v × (told ≡ now ++ later)
 
-  -- the next line is none
+  -- the player does not accept the next line
   abbrev pub IsStopped : S → List (List ℕ) → Type 0
   IsStopped s [] = ⊥
   IsStopped s (line ∷ others) = stops s (content line)
 
-  -- the next line was done, and of its answer a prefix was written after the text
+  -- the next line was done, and a prefix of its answer was written after the text
   pub record IsUnwritten (s : S) (others : List (List ℕ)) (told : List ℕ) (old new : Option (List ℕ)) : Type 0 where
     pub line : List ℕ
     pub rest : List (List ℕ)
@@ -62,7 +62,7 @@ module _ {S : Type 0} (plays : S → List ℕ → List ℕ → S → Type 0) (st
     pub count : ℕ
     pub wrote : Appends old new (told ++ take count answer)
 
-  -- Why it ended, where these lines were done, and these others were not. It is over exactly where the last state is.
+  -- The reason of the end, after these lines were done and the others were not. The script is over exactly if the last state is over.
   abbrev pub EndsAs : List ℕ → Option (List ℕ) → Option (List ℕ) → Option (List ℕ) → List (List ℕ) → List (List ℕ) → List ℕ → S → Result Ended Failure → Type 0
   EndsAs text left old new done others told s (Ok ends.AtEnd) = (over s ≡ false) × (others ≡ []) × Appends old new told
   EndsAs text left old new done others told s (Ok ends.Over) = (over s ≡ true) × Appends old new told
@@ -73,7 +73,7 @@ module _ {S : Type 0} (plays : S → List ℕ → List ℕ → S → Type 0) (st
       (over s ≡ false) × (((f ≡ no_line (length (joined_lines done))) × IsStopped s others) ⊎ ((f ≡ too_much_input) × IsTooLong text left done)) × Appends old new told
   EndsAs text left old new done others told s (Err _) = ⊥
 
-  -- The first lines of the text were done, from one state to another, and their answers were written; and it ended there.
+  -- The first lines of the text were done, from one state to another, and their answers were written; then the script ended.
   pub record Replayed (start : S) (text : List ℕ) (left old new : Option (List ℕ)) (result : Result Ended Failure) : Type 0 where
     pub done : List (List ℕ)
     pub others : List (List ℕ)
@@ -83,7 +83,7 @@ module _ {S : Type 0} (plays : S → List ℕ → List ℕ → S → Type 0) (st
     pub run : Plays start done told state
     pub ended : EndsAs text left old new done others told state result
 
-  -- The same, before it ended: the next line begins at this byte.
+  -- The first lines were done, and the script has not ended: the next line begins at this byte.
   pub record IsGoing (start : S) (text : List ℕ) (left old new : Option (List ℕ)) (state : S) (offset : ℕ) : Type 0 where
     pub done : List (List ℕ)
     pub rest : List ℕ
@@ -96,13 +96,13 @@ module _ {S : Type 0} (plays : S → List ℕ → List ℕ → S → Type 0) (st
     pub run : Plays start done told state
     pub wrote : Appends old new told
 
-  -- one line more was done, or it ended
+  -- one more line was done, or the script ended
   abbrev pub Turned : S → List ℕ → Option (List ℕ) → Option (List ℕ) → Option (List ℕ) → S → ℕ → Result (Option Ended) Failure → Type 0
   Turned start text left old new state offset (Ok None) = IsGoing start text left old new state offset
   Turned start text left old new state offset (Ok (Some e)) = Replayed start text left old new (Ok e)
   Turned start text left old new state offset (Err e) = Replayed start text left old new (Err e)
 
--- how many reads one line takes, where the script is read from one byte to another
+-- the number of reads for one line, where the script is read from one byte to another
 abbrev pub CountsTurn : ℕ → ℕ → ℕ → ℕ → Result (Option Ended) Failure → Type 0
 CountsTurn old new from to (Ok None) = (from < to) × (to ≤ INPUT_LIMIT) × (new + from ≤ old + to)
 CountsTurn old new from to (Ok (Some e)) = new + from ≤ old + INPUT_LIMIT + 1

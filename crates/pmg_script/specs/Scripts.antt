@@ -1,4 +1,4 @@
--- What the lines of a script say.
+-- The meaning of the lines of a script.
 use Rattle.std.specs.Prelude.{ℕ, ◌==◌, Bool, List, length, map, codes, Option, Some, None, if◌then◌else◌}
 use Rattle.std.specs.Borrow.{Bor}
 use Rattle.std.specs.Str.{bytes_eq}
@@ -11,9 +11,8 @@ use Rattle.pmg_script.specs.Lines.{Left, read_word, read_words, read_end, read_a
 use Rattle.pmg_script.specs.declared.script.Line.{Line as SaidLine}
 use Rattle.pmg_script.specs.declared.script.Line.TheVariants as said_lines
 
--- A line of a script: nothing; the names of the nodes; a namespace with the home of each rank; a call of a process; the delivery
--- of a frame, by its number, or of all that were never delivered; what is asked of a node. A process, a key and the name of a set
--- are named by bytes, whatever they are.
+-- A line of a script: nothing; the names of the nodes; a namespace with the home of each rank; a call of a process. The delivery of a
+-- frame, by its number, or of all frames that were never delivered; a request to a node. Any bytes may name a process, a key and a set.
 pub data Line : Type 0 where
   nothing : Line
   nodes : List (List ℕ) → Line
@@ -33,11 +32,11 @@ pub data Line : Type 0 where
   members : ℕ → List ℕ → Line
   dump : ℕ → Line
 
--- the bytes of words that are lent
+-- the bytes of borrowed words
 abbrev pub texts : List (Bor (List ℕ)) → List (List ℕ)
 texts words = map (λ word. word.now) words
 
--- a line, as code holds it
+-- a line, as the code has it
 abbrev pub line_of : SaidLine → Line
 line_of said_lines.Nothing = Line.nothing
 line_of (said_lines.Nodes names) = Line.nodes (texts names.items)
@@ -57,7 +56,7 @@ line_of (said_lines.Nudge node) = Line.nudge node
 line_of (said_lines.Members node name) = Line.members node name.now
 line_of (said_lines.Dump node) = Line.dump node
 
--- ---- what stands after the first word
+-- ---- the words after the first one
 
 -- `nodes NAME ..`
 unfoldable pub nodes_in : Left → Option Line
@@ -89,7 +88,7 @@ enter_in left = do
   list ← read_proc_list collect.1
   Some (Line.enter p.0 collect.0 list)
 
--- `get NS RANK wait` or `now`, then `NS RANK KEY`
+-- `get NS RANK wait`, `now` or `refresh`, then `NS RANK KEY`
 unfoldable pub get_in : Left → Option Line
 get_in left = do
   p ← read_proc_words left
@@ -119,21 +118,21 @@ members_in left = do
   name ← node.1
   Some (Line.members node.0 name)
 
--- `NS RANK` alone
+-- only `NS RANK`
 unfoldable pub proc_in : (Proc → Line) → Left → Option Line
 proc_in says left = do
   p ← read_proc_words left
   nothing_more ← read_end p.1
   Some (says p.0)
 
--- one number alone
+-- only one number
 unfoldable pub number_alone : (ℕ → Line) → Left → Option Line
 number_alone says left = do
   n ← read_as number_in left
   nothing_more ← read_end n.1
   Some (says n.0)
 
--- nothing
+-- no words
 unfoldable pub alone : Line → Left → Option Line
 alone line left = do
   nothing_more ← read_end left
@@ -141,7 +140,7 @@ alone line left = do
 
 -- ---- whole lines
 
--- what a line says that begins with the word
+-- the line that begins with the word
 unfoldable pub said_with : List ℕ → Left → Option Line
 said_with word left =
     if bytes_eq word (codes "get") then get_in left
@@ -161,7 +160,7 @@ said_with word left =
     else if bytes_eq word (codes "nodes") then nodes_in left
     else if bytes_eq word (codes "space") then space_in left else None
 
--- What a line's content says; nothing is found where it has no form that lines have.
+-- The line with this content; `None` if it does not have the form of a script's line.
 unfoldable pub said : List ℕ → Option Line
 said text = if length text == 0 then Some Line.nothing else do
   word ← read_word (Some text)

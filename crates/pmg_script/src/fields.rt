@@ -1,4 +1,4 @@
-//! What the words of a line say.
+//! The meaning of the words of a line.
 ghost use Rattle.std.specs.Prelude.{◌≡◌};
 ghost use Rattle.pmg_script.specs.Lines.{ReadsWords, ReadsAllWords, read_as, read_words};
 ghost use Rattle.pmg_script.specs.Scripts.{texts};
@@ -14,7 +14,7 @@ use pmg_wire::value_from_bytes;
 use std::alloc::Global;
 use std::marker::Model;
 
-/// A process as a line names it: the bytes that name its namespace, whatever they are, and its rank.
+/// A process as a line names it: the bytes of its namespace's name, which may be any bytes, and its rank.
 #[derive(Drop)]
 pub struct Named<'a> {
     pub nspace: &'a [u8],
@@ -32,7 +32,7 @@ impl<'a> Model for Named<'a> {
     ghost view = { λ a. record { nspace = a.nspace.now; rank = a.rank } };
 }
 
-/// A number, which is digits alone; of a greater one than 64 bits hold, the greatest of these.
+/// Reads a number, which has only digits; a number above 64 bits becomes the greatest number of 64 bits.
 #[tactic(auto, unfolding(crate::specs::Fields::number_in))]
 pub fn number_of(word: &[u8]) -> Result<u64, LineFault>
     ensures { ReadsAllWords (λ n. n) result (number_in word.now) }
@@ -49,7 +49,7 @@ pub fn number_of(word: &[u8]) -> Result<u64, LineFault>
     Ok(value)
 }
 
-/// A rank: a number of 32 bits, or `*` for all ranks.
+/// Reads a rank: a number of 32 bits, or `*` for all ranks.
 #[tactic(auto, unfolding(crate::specs::Fields::rank_in))]
 fn rank_of(word: &[u8]) -> Result<Rank, LineFault>
     ensures { ReadsAllWords (λ r. r) result (rank_in word.now) }
@@ -64,7 +64,7 @@ fn rank_of(word: &[u8]) -> Result<Rank, LineFault>
     Ok(Rank::new(number as u32))
 }
 
-/// A scope.
+/// Reads a scope.
 #[tactic(auto, unfolding(crate::specs::Fields::scope_in))]
 fn scope_of(word: &[u8]) -> Result<Scope, LineFault>
     ensures { ReadsAllWords (λ s. s) result (scope_in word.now) }
@@ -84,7 +84,7 @@ fn scope_of(word: &[u8]) -> Result<Scope, LineFault>
     }
 }
 
-/// Whether a fence collects data.
+/// Reads whether a fence collects data.
 #[tactic(auto, unfolding(crate::specs::Fields::collect_in))]
 fn collect_of(word: &[u8]) -> Result<bool, LineFault>
     ensures { ReadsAllWords (λ c. c) result (collect_in word.now) }
@@ -98,7 +98,7 @@ fn collect_of(word: &[u8]) -> Result<bool, LineFault>
     }
 }
 
-/// Whether a get waits, and whether it asks the home of its target anew.
+/// Reads whether a get waits, and whether it asks the home of its target anew.
 #[tactic(auto, unfolding(crate::specs::Fields::mode_in))]
 fn mode_of(word: &[u8]) -> Result<Mode, LineFault>
     ensures { ReadsAllWords (λ m. m) result (mode_in word.now) }
@@ -114,7 +114,7 @@ fn mode_of(word: &[u8]) -> Result<Mode, LineFault>
     }
 }
 
-/// A value, by its canonical bytes in hexadecimal.
+/// Reads a value from its canonical bytes in hexadecimal.
 #[tactic(auto, unfolding(crate::specs::Fields::value_in))]
 fn value_by_hex(alloc: Global, word: &[u8]) -> Result<Value, LineFault>
     ensures { ReadsAllWords (λ v. v) result (value_in word.now) }
@@ -126,7 +126,7 @@ fn value_by_hex(alloc: Global, word: &[u8]) -> Result<Value, LineFault>
     }
 }
 
-/// A value, by its canonical bytes.
+/// Reads a value from its canonical bytes.
 fn value_by_bytes(alloc: Global, bytes: &[u8]) -> Result<Value, LineFault>
     ensures { ReadsAllWords (λ v. v) result (result_ok (whole_value bytes.now)) }
 {
@@ -138,7 +138,7 @@ fn value_by_bytes(alloc: Global, bytes: &[u8]) -> Result<Value, LineFault>
 }
 
 impl<'a> Words<'a> {
-    /// The next word, which is a number.
+    /// Reads the next word, which is a number.
     pub fn number(&mut self) -> Result<u64, LineFault>
         ensures { ReadsWords (λ n. n) result self.new (read_as number_in self.old) }
     {
@@ -146,7 +146,7 @@ impl<'a> Words<'a> {
         number_of(word)
     }
 
-    /// The next word, which is a scope.
+    /// Reads the next word, which is a scope.
     pub fn scope(&mut self) -> Result<Scope, LineFault>
         ensures { ReadsWords (λ s. s) result self.new (read_as scope_in self.old) }
     {
@@ -154,7 +154,7 @@ impl<'a> Words<'a> {
         scope_of(word)
     }
 
-    /// The next word, which says whether a fence collects data.
+    /// Reads the next word, which says whether a fence collects data.
     pub fn collect(&mut self) -> Result<bool, LineFault>
         ensures { ReadsWords (λ c. c) result self.new (read_as collect_in self.old) }
     {
@@ -162,7 +162,7 @@ impl<'a> Words<'a> {
         collect_of(word)
     }
 
-    /// The next word, which is the mode of a get.
+    /// Reads the next word, which is the mode of a get.
     pub fn mode(&mut self) -> Result<Mode, LineFault>
         ensures { ReadsWords (λ m. m) result self.new (read_as mode_in self.old) }
     {
@@ -170,7 +170,7 @@ impl<'a> Words<'a> {
         mode_of(word)
     }
 
-    /// The next word, which is a value in hexadecimal.
+    /// Reads the next word, which is a value in hexadecimal.
     pub fn value(&mut self, alloc: Global) -> Result<Value, LineFault>
         ensures { ReadsWords (λ v. v) result self.new (read_as value_in self.old) }
     {
@@ -178,7 +178,7 @@ impl<'a> Words<'a> {
         value_by_hex(alloc, word)
     }
 
-    /// The next two words, which name a process.
+    /// Reads the next two words, which name a process.
     #[inline(always)]
     #[tactic(auto, unfolding(crate::specs::Fields::read_proc_words))]
     pub fn proc(&mut self) -> Result<Named<'a>, LineFault>
@@ -190,7 +190,7 @@ impl<'a> Words<'a> {
         Ok(Named { nspace, rank })
     }
 
-    /// So many processes.
+    /// Reads so many processes.
     pub fn procs(&mut self, alloc: Global, count: u64) -> Result<Vec<Named<'a>>, LineFault>
         ensures { ReadsWords (λ ps. ps.items) result self.new (read_procs count self.old) }
     {
@@ -202,7 +202,7 @@ impl<'a> Words<'a> {
         Ok(procs)
     }
 
-    /// All words that are left.
+    /// Reads all words that are left.
     pub fn all_words(&mut self, alloc: Global) -> Result<Vec<&'a [u8]>, LineFault>
         ensures { ReadsAllWords (λ words. texts words.items) result (read_words self.old) }
     {
@@ -214,7 +214,7 @@ impl<'a> Words<'a> {
         Ok(words)
     }
 
-    /// All that is left, as numbers.
+    /// Reads all words that are left, as numbers.
     pub fn all_numbers(&mut self, alloc: Global) -> Result<Vec<u64>, LineFault>
         ensures { ReadsAllWords (λ ns. ns.items) result (all_numbers self.old) }
     {
@@ -226,7 +226,7 @@ impl<'a> Words<'a> {
         Ok(numbers)
     }
 
-    /// All that is left, as processes.
+    /// Reads all words that are left, as processes.
     pub fn all_procs(&mut self, alloc: Global) -> Result<Vec<Named<'a>>, LineFault>
         ensures { ReadsAllWords (λ ps. ps.items) result (read_proc_list self.old) }
     {

@@ -1,4 +1,4 @@
-//! Scripts: the lines that say what happens in a group, how they are read, and how they are done one by one.
+//! Scripts: lines of events in a group, their reader, and their player, which does them one by one.
 #![tactic(auto)]
 
 mod fields;

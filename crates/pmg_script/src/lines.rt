@@ -13,10 +13,10 @@ pub(crate) const LF: u8 = b'\n';
 
 const CR: u8 = b'\r';
 
-/// Why a line was not read.
+/// The reason why a line was not read.
 #[derive(Clone, Copy, Debug, PartialEq, Eq, Error)]
 pub enum LineFault {
-    /// The line has no form that a script's lines have.
+    /// The line does not have the form of a script's line.
     #[error("malformed line")]
     Malformed,
     /// An allocation failed.
@@ -40,7 +40,7 @@ impl<T: Drop> From<AllocFailed<T>> for LineFault {
     }
 }
 
-/// What a line holds: all of it but the LF that ends it, and a CR before that.
+/// Returns the content of a line: all of it except the LF that ends it, and a CR before the LF.
 #[tactic(auto, unfolding(crate::specs::Lines::content))]
 pub fn content(line: &[u8]) -> &[u8]
     ensures { result.now ≡ content line.now }
@@ -54,7 +54,7 @@ pub fn content(line: &[u8]) -> &[u8]
     &line[..line.len() - 1]
 }
 
-/// Whether the line has this byte so many bytes before its end.
+/// Returns whether the line has this byte so many bytes before its end.
 fn has_byte(line: &[u8], back: usize, byte: u8) -> bool
     requires { 0 < back }
     ensures { result ≡ has_byte back byte line.now }
@@ -62,7 +62,7 @@ fn has_byte(line: &[u8], back: usize, byte: u8) -> bool
     back <= line.len() && line[line.len() - back] == byte
 }
 
-/// What is left of a line after some of its words, which one blank separates.
+/// The rest of a line after some of its words; one blank separates two words.
 #[derive(Drop)]
 pub struct Words<'a> {
     left: Option<&'a [u8]>,
@@ -78,14 +78,14 @@ impl<'a> Model for Words<'a> {
 }
 
 impl<'a> Words<'a> {
-    /// The words of a text.
+    /// Returns the words of a text.
     pub fn of(text: &'a [u8]) -> Words<'a>
         ensures { result ≡ Some text.now }
     {
         Words { left: Some(text) }
     }
 
-    /// The next word. It is malformed where nothing is left, and where the word is empty.
+    /// Returns the next word. A missing or empty word is malformed.
     #[tactic(auto, unfolding(crate::specs::Lines::read_word))]
     pub fn word(&mut self) -> Result<&'a [u8], LineFault>
         ensures { ReadsWords (λ word. word.now) result self.new (read_word self.old) }
@@ -101,7 +101,7 @@ impl<'a> Words<'a> {
         Ok(word)
     }
 
-    /// What stands after the blank that ended the last word. It is malformed where no blank ended it.
+    /// Returns the text after the blank that ended the last word. It is malformed if no blank ended the word.
     pub fn rest(&self) -> Result<&'a [u8], LineFault>
         ensures { ReadsAllWords (λ rest. rest.now) result self.now }
     {
@@ -111,14 +111,14 @@ impl<'a> Words<'a> {
         }
     }
 
-    /// Whether nothing is left.
+    /// Returns whether nothing is left.
     pub fn is_at_end(&self) -> bool
         ensures { result ≡ is_none self.now }
     {
         self.left.is_none()
     }
 
-    /// The line is malformed where something is left.
+    /// Checks that nothing is left; a rest is malformed.
     pub fn end(&self) -> Result<(), LineFault>
         ensures { ReadsAllWords (λ u. u) result (read_end self.now) }
     {
@@ -129,7 +129,7 @@ impl<'a> Words<'a> {
     }
 }
 
-/// Where the first blank stands.
+/// Returns the position of the first blank.
 fn first_blank(text: &[u8]) -> Option<usize>
     ensures value { result ≡ position is_blank text.now }
     ensures bound { IfSome result (λ at. at < length text.now) }
@@ -137,7 +137,7 @@ fn first_blank(text: &[u8]) -> Option<usize>
     text.iter().position(|byte| *byte == b' ')
 }
 
-/// The word before the first blank, and what stands after the blank.
+/// Returns the word before the first blank, and the text after the blank.
 fn part(text: &[u8]) -> (&[u8], Option<&[u8]>)
     ensures word { result.0.now ≡ (parted text.now (position is_blank text.now)).0 }
     ensures left { option_map (λ left. left.now) result.1 ≡ (parted text.now (position is_blank text.now)).1 }

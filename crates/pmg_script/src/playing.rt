@@ -1,4 +1,4 @@
-//! Doing a script line by line, each reply written before the next line is read.
+//! The player of a script, which does it line by line, and writes each reply before it reads the next line.
 ghost use Rattle.std.specs.Prelude.{◌≡◌, ◌≤◌, ◌+◌, ◌⊎◌, ℕ, Bool, Err, false, List, Option, IfErr, IfOk, IfSome, IsSome};
 ghost use Rattle.pmg_store.specs.declared.input.TheConstants.{INPUT_LIMIT, MOST_READS};
 ghost use Rattle.pmg_store.specs.declared.failure.Failure.TheVariants as failures;
@@ -14,45 +14,45 @@ use std::alloc::Global;
 use std::io::{BufRead, Write};
 use std::mem;
 
-/// How a script ended that was no fault.
+/// The end of a script without a fault.
 #[derive(Clone, Copy, Debug, PartialEq, Eq)]
 pub enum Ended {
     /// Each of its lines was done.
     AtEnd,
-    /// A line was done after which no other is.
+    /// A line was done, and no line is done after it.
     Over,
 }
 
-/// What does the lines of a script, one after another.
+/// A player, which does the lines of a script, one after another.
 pub trait Player {
-    /// How a line is answered, by its content: from one state, with a text, to another state.
+    /// The relation of a line's answer: a state, the line's content, the reply's text, and the next state.
     ghost plays: { Self → List ℕ → List ℕ → Self → Type 0 };
 
-    /// Which lines are none.
+    /// The lines that are not lines of a script.
     ghost stops: { Self → List ℕ → Type 0 };
 
-    /// After which states no line is done.
+    /// The states after which no line is done.
     ghost over: { Self → Bool };
 
-    /// Does a line, by its content, and answers with the text of its reply, for which the room of an earlier one may serve. A line is
-    /// malformed that has no form of a script's lines, and so is one that stands out of order.
+    /// Does a line, by its content, and returns the text of its reply, for which it may reuse the room of an earlier one. A line that does
+    /// not have the form of a script's line, or is out of order, is malformed.
     fn play(&mut self, line: &[u8], room: Vec<u8>) -> Result<Vec<u8>, LineFault>
         ensures ok { IfOk result (λ text. plays self.old line.now text.items self.new) }
         ensures malformed { result ≡ Err faults.Malformed → stops self.old line.now };
 
-    /// Whether no other line is done.
+    /// Returns whether no other line is done.
     fn is_over(&self) -> bool
         ensures { result ≡ over self.now };
 }
 
-/// The refusal of a line that begins at this byte of the script.
+/// Returns the refusal of a line that begins at this byte of the script.
 fn no_line(offset: usize) -> Failure
     ensures { result ≡ failures.Refused (refusals.BadFrame (no_line offset)) }
 {
     Failure::Refused(Refusal::bad_frame(offset as u64, Cause::Script))
 }
 
-/// Why a line that begins at this byte was not done.
+/// Returns the failure of a line that begins at this byte and was not done.
 fn failure_of(fault: LineFault, offset: usize) -> Failure
     ensures malformed { fault ≡ faults.Malformed → result ≡ failures.Refused (refusals.BadFrame (no_line offset)) }
     ensures memory { fault ≡ faults.NoMemory → result ≡ failures.Refused refusals.NoMemory }
@@ -63,8 +63,8 @@ fn failure_of(fault: LineFault, offset: usize) -> Failure
     }
 }
 
-/// Does the next line, which begins at this byte of the script, and writes its reply. The line is read into the one list, and the
-/// reply is written into the other.
+/// Does the next line, which begins at this byte of the script, and writes its reply. The one list receives the line, and the other one the
+/// reply.
 fn turn<P: Player, R: BufRead, W: Write>(
     alloc: Global,
     reader: &mut WatchedReader<R>,
@@ -105,10 +105,11 @@ fn turn<P: Player, R: BufRead, W: Write>(
     Ok(None)
 }
 
-/// Does the lines of a script, and says how it ended.
+/// Does the lines of a script, and returns how it ended.
 ///
-/// A reply is written before the next line is read. A line that is none ends the script, as `BadFrame` with the cause Script at its first
-/// byte; so does the limit of `INPUT_LIMIT` bytes, once the lines before it are done. The reader is read at most 67,108,865 times.
+/// A reply is written before the next line is read. A malformed line ends the script, as `BadFrame` with the cause Script at its first
+/// byte. The limit of `INPUT_LIMIT` bytes also ends it, after the lines before the limit are done. The reader is read at most 67,108,865
+/// times.
 pub fn play_script<P: Player, R: BufRead, W: Write>(
     alloc: Global,
     reader: &mut WatchedReader<R>,

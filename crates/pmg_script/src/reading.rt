@@ -1,4 +1,4 @@
-//! Reading a script line by line.
+//! The reader of a script, line by line.
 ghost use Rattle.std.specs.Prelude.{◌≡◌, ◌+◌, ◌≤◌, ◌⊎◌, [], length, Err, IfErr, IsSome};
 ghost use Rattle.pmg_store.specs.declared.input.TheConstants.{INPUT_LIMIT};
 ghost use Rattle.pmg_store.specs.declared.failure.Failure.TheVariants as failures;
@@ -8,10 +8,10 @@ use crate::lines::LF;
 use pmg_store::{Failure, INPUT_LIMIT, MOST_READS, WatchedReader, too_long};
 use std::io::BufRead;
 
-/// Reads the next line of a script, which begins at this byte of it, and says whether an LF ends it; the LF stays in the line.
+/// Reads the next line of a script, which begins at this byte of it, and returns whether an LF ends it; the LF stays in the line.
 ///
-/// A script of more than `INPUT_LIMIT` bytes is refused as `BadFrame` with the cause Input at the limit. Any error of the reader is a
-/// read fault. The line then holds what was read of it.
+/// Errors: `BadFrame` with the cause Input at the limit if the script has more than `INPUT_LIMIT` bytes. A read fault for any error of the
+/// reader. After an error the line has the bytes that were read of it.
 pub fn next_line<R: BufRead>(
     reader: &mut WatchedReader<R>,
     start: usize,

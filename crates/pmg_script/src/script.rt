@@ -1,4 +1,4 @@
-//! What the lines of a script say.
+//! The meaning of the lines of a script.
 ghost use Rattle.std.specs.Prelude.{◌≡◌};
 ghost use Rattle.pmg_script.specs.Lines.{ReadsAllWords};
 ghost use Rattle.pmg_script.specs.Scripts.{line_of, nodes_in, space_in, put_in, enter_in, get_in, define_in, delete_in, members_in, proc_in, number_alone, alone, said_with, said};
@@ -11,10 +11,10 @@ use pmg_scope::Scope;
 use pmg_value::Value;
 use std::alloc::Global;
 
-/// A line of a script. A namespace, a key and the name of a set are the bytes that stand there, whatever they are.
+/// A line of a script. The names of a namespace, a key and a set are the bytes in the line, which may be any bytes.
 #[derive(Drop)]
 pub enum Line<'a> {
-    /// Nothing stands in the line.
+    /// An empty line.
     Nothing,
     /// The group's nodes have these names.
     Nodes(Vec<&'a [u8]>),
@@ -24,9 +24,9 @@ pub enum Line<'a> {
     Put(Named<'a>, Scope, Value, &'a [u8]),
     /// The process commits.
     Commit(Named<'a>),
-    /// The process enters its next fence of these participants; whether it collects data.
+    /// The process enters its next fence of these participants; the flag says whether the fence collects data.
     Enter(Named<'a>, bool, Vec<Named<'a>>),
-    /// The process leaves the fence that it is released from.
+    /// The process leaves the fence that released it.
     Leave(Named<'a>),
     /// The process asks for a key of the target.
     Get(Named<'a>, Mode, Named<'a>, &'a [u8]),
@@ -34,23 +34,23 @@ pub enum Line<'a> {
     Take(Named<'a>),
     /// The process ends.
     End(Named<'a>),
-    /// A set of these processes is defined.
+    /// The host defines a set of these processes.
     Define(Vec<Named<'a>>, &'a [u8]),
-    /// The set is deleted.
+    /// The host deletes the set.
     Delete(&'a [u8]),
-    /// The frame of that number is delivered.
+    /// A node receives the frame of that number.
     Deliver(u64),
-    /// Each frame is delivered that never was.
+    /// Each frame that was never delivered is delivered.
     Flow,
-    /// The node asks other nodes again for what is missing.
+    /// The node asks other nodes again for missing headers and commits.
     Nudge(u64),
-    /// The members of a set are told, as the node knows them.
+    /// The node shows the members of a set, by its knowledge.
     Members(u64, &'a [u8]),
-    /// The node's dump is told.
+    /// The node shows its dump.
     Dump(u64),
 }
 
-/// What the content of a line says. It is malformed where it has no form that lines have.
+/// Reads the content of a line. A line without the form of a script's line is malformed.
 #[tactic(auto, unfolding(crate::specs::Scripts::said))]
 pub fn read_line<'a>(alloc: Global, text: &'a [u8]) -> Result<Line<'a>, LineFault>
     ensures { ReadsAllWords line_of result (said text.now) }
@@ -63,7 +63,7 @@ pub fn read_line<'a>(alloc: Global, text: &'a [u8]) -> Result<Line<'a>, LineFaul
     read_rest(alloc, word, &mut words)
 }
 
-/// What a line says that begins with the word.
+/// Reads the rest of a line that begins with the word.
 #[tactic(auto, unfolding(crate::specs::Scripts::said_with))]
 fn read_rest<'a>(alloc: Global, word: &[u8], words: &mut Words<'a>) -> Result<Line<'a>, LineFault>
     ensures { ReadsAllWords line_of result (said_with word.now words.old) }
@@ -131,7 +131,7 @@ fn read_enter<'a>(alloc: Global, words: &mut Words<'a>) -> Result<Line<'a>, Line
     Ok(Line::Enter(proc, collect, list))
 }
 
-/// `get NS RANK wait` or `now`, then `NS RANK KEY`
+/// `get NS RANK wait`, `now` or `refresh`, then `NS RANK KEY`
 #[tactic(auto, unfolding(crate::specs::Scripts::get_in))]
 fn read_get<'a>(words: &mut Words<'a>) -> Result<Line<'a>, LineFault>
     ensures { ReadsAllWords line_of result (get_in words.old) }

@@ -1,4 +1,4 @@
--- The text of what a server holds.
+-- The text of a server's content.
 use Rattle.std.specs.Prelude.{ℕ, nat_lt, List, [], ◌∷◌, ◌++◌, codes, decimal, Option, Some, None, Ok, Err, if◌then◌else◌}
 use Rattle.std.specs.List.{flat_map}
 use Rattle.std.specs.Ordering.{nat_cmp}
@@ -32,22 +32,22 @@ key_line (key, bytes) = codes "  " ++ (value_text bytes ++ (codes " " ++ (key ++
 abbrev pub proc_line : Proc → ℕ → List ℕ
 proc_line p n = codes "proc " ++ (p.nspace ++ (codes " " ++ (decimal p.rank ++ (codes " level " ++ (decimal n ++ codes "\n")))))
 
--- a key with what is read under it, where something is, before the others
+-- a key with its read value, if there is one, before the others
 abbrev pub with_reading : Option (List ℕ) → List ℕ → List (List ℕ × List ℕ) → List (List ℕ × List ℕ)
 with_reading None key others = others
 with_reading (Some bytes) key others = (key, bytes) ∷ others
 
--- the keys of the entries with what is read under them
+-- the keys of the entries with their read values
 abbrev pub readings : Knowledge → List Entry → List (List ℕ × List ℕ)
 readings k [] = []
 readings k (e ∷ es) = with_reading (read k e.key) e.key (readings k es)
 
--- What is read under each key, as canonical bytes.
+-- The read value of each key, as canonical bytes.
 unfoldable pub reads_of : Knowledge → finite.FinMap (slice_cmp nat_cmp) (List ℕ)
 reads_of k = finite.from_entries (readings k (set.items k.entries))
 
--- A process's lines: its own, and that of each key that is read, in the order of the keys' bytes. A process of
--- level 0 has none.
+-- A process's lines: its own line, and the line of each key with a value, in the order of the keys' bytes. A process of level 0 has no
+-- lines.
 unfoldable pub known_text : Proc → Knowledge → List ℕ
 known_text p k =
     if nat_lt 0 (level k.numbers) then proc_line p (level k.numbers) ++ flat_map key_line (finite.entries (reads_of k)) else []

@@ -1,4 +1,4 @@
--- What is known of one process, where it is what the process's own commits sealed.
+-- Knowledge of one process that comes from the process's own commits.
 use Rattle.std.specs.Prelude.{◌≡◌, ◌≤◌, ℕ, List, ◌++◌, true}
 use Rattle.std.specs.FinMap as finite
 use Rattle.pmg_value.specs.Lists.{Each}
@@ -10,31 +10,31 @@ use Rattle.pmg_commit.specs.Honest.{IsHonest, known_from}
 use Rattle.pmg_commit.specs.Data.{Data, absorbed, join_data, known, level_at, read_at}
 use Rattle.pmg_store.specs.Pieces.{is_of}
 
--- The data is honest for a process: what it knows of it are contributions of the process's script for the reach.
+-- The data is honest for a process: its knowledge of the process is the core of contributions of the process's script for the reach.
 pub record IsHonestData (s : Script) (r : Reach) (p : Proc) (d : Data) : Type 0 where
   pub told : List Contribution
   pub honest : Each (IsHonest s r) told
   pub is : known d p ≡ core (known_from told)
 
--- data that has taken nothing is honest
+-- empty data is honest
 abbrev pub EmptyIsHonest : Type 0
 EmptyIsHonest = (s : Script) (r : Reach) (p : Proc) → IsHonestData s r p finite.empty
 
--- and stays so with a contribution, if one of the process itself is honest
+-- honest data stays honest with a contribution that is honest or of another process
 abbrev pub AbsorbedIsHonest : Type 0
 AbsorbedIsHonest =
     (s : Script) (r : Reach) (p : Proc) (d : Data) (c : Contribution) → (is_of p c ≡ true → IsHonest s r c) → IsHonestData s r p d
     → IsHonestData s r p (absorbed d c)
 
--- with other honest data
+-- the join of honest data is honest
 abbrev pub JoinedIsHonest : Type 0
 JoinedIsHonest = (s : Script) (r : Reach) (p : Proc) (d e : Data) → IsHonestData s r p d → IsHonestData s r p e → IsHonestData s r p (join_data d e)
 
--- and whatever the process calls later
+-- honest data stays honest after later calls of the process
 abbrev pub LongerIsHonest : Type 0
 LongerIsHonest = (s later : Script) (r : Reach) (p : Proc) (d : Data) → IsHonestData s r p d → IsHonestData (s ++ later) r p d
 
--- what is read is the value that the process's own commit left whose number is the level
+-- a read gives the value after the process's own commit at the level
 abbrev pub HonestDataReads : Type 0
 HonestDataReads =
     (s : Script) (r : Reach) (p : Proc) (d : Data) → IsHonestData s r p d → (key : List ℕ) → read_at d p key ≡ value_at s (level_at d p) r key

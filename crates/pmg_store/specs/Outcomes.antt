@@ -1,4 +1,4 @@
--- What a call that reads and writes answers, where what is due is known.
+-- The answers of a call that reads and writes, against the answer that is due.
 use Rattle.std.specs.Prelude.{◌≡◌, ◌⊎◌, ℕ, List, MatchResult, Ok, Err}
 use Rattle.std.specs.declared.option.Option.{Option}
 use Rattle.std.specs.declared.result.Result.{Result}
@@ -14,7 +14,7 @@ abbrev pub or_failure : {Y : Type 0} → Result Y Fault → Result Y Failure
 or_failure (Ok y) = Ok y
 or_failure (Err fault) = Err (Refused (BadFrame fault))
 
--- An allocation may always fail, and so may a reader; that it did is a clause of its own at each call.
+-- Any allocation may fail, and any reader may fail. A separate clause at each call states that it failed.
 abbrev pub CanAlwaysCome : Failure → Type 0
 CanAlwaysCome failure = (failure ≡ Refused NoMemory) ⊎ (failure ≡ Read)
 

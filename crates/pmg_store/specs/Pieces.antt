@@ -1,4 +1,4 @@
--- What a list of pieces adds up to.
+-- The sum of a list of pieces.
 use Rattle.std.specs.Prelude.{Bool, List, [], ◌∷◌, map, if◌then◌else◌}
 use Rattle.std.specs.Ordering.{eq_by_cmp}
 use Rattle.std.specs.FinMap as finite
@@ -16,11 +16,11 @@ data_of pieces = join_all join_data finite.empty (map of_contribution pieces)
 abbrev pub is_of : Proc → Contribution → Bool
 is_of p c = eq_by_cmp proc_cmp p c.proc
 
--- what the piece tells of the process: nothing, if it is of another one
+-- the piece's knowledge of the process: nothing if the piece is of another process
 abbrev pub piece_knowledge : Proc → Contribution → Knowledge
 piece_knowledge p c = if is_of p c then knowledge_of c else nothing
 
--- the union of what the pieces tell of the process
+-- the union of the pieces' knowledge of the process
 abbrev pub pieces_told : Proc → List Contribution → Knowledge
 pieces_told p [] = nothing
 pieces_told p (c ∷ cs) = union (piece_knowledge p c) (pieces_told p cs)

@@ -1,4 +1,4 @@
--- What is in trees of places that may be empty.
+-- The content of trees of places that may be empty.
 use Rattle.std.specs.Prelude.{ℕ, List, [], ◌∷◌, map, Option, Some, None}
 use Rattle.pmg_value.specs.declared.process.Proc.{Proc}
 use Rattle.pmg_value.specs.Spelling.{spelling}
@@ -8,12 +8,12 @@ use Rattle.pmg_lane.specs.declared.entries.Stamp.{Stamp}
 use Rattle.pmg_lane.specs.declared.track.Track.{Track}
 use Rattle.pmg_store.specs.Dump.{known_text}
 
--- a place before others, if it is not empty, with what is in it as f shows it
+-- a place before others, if it is not empty, with its content as f shows it
 abbrev pub filled_before : {K V X : Type 0} → (V → X) → K → Option V → List (K × X) → List (K × X)
 filled_before f key None others = others
 filled_before f key (Some value) others = (key, f value) ∷ others
 
--- the places that are not empty, with what is in them as f shows it
+-- the places that are not empty, with their content as f shows it
 abbrev pub filled : {K V X : Type 0} → (V → X) → List (K × Option V) → List (K × X)
 filled f [] = []
 filled f (place ∷ places) = filled_before f place.0 place.1 (filled f places)

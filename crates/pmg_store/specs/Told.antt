@@ -1,4 +1,4 @@
--- What a stream of frames tells.
+-- The contributions in a stream of frames.
 use Rattle.std.specs.Prelude.{ℕ, ◌==◌, List, [], ◌∷◌, length, Option, Some, None, Ok, Err, if◌then◌else◌}
 use Rattle.std.specs.declared.result.Result.{Result}
 use Rattle.pmg_value.specs.declared.refusal.Cause.TheVariants as causes
@@ -12,19 +12,19 @@ use Rattle.pmg_frame.specs.Refreshing.{told_by}
 use Rattle.pmg_frame.specs.Streams.{stream_said}
 use Rattle.pmg_store.specs.Pieces.{data_of}
 
--- what is told, where something is
+-- the contribution, if there is one, before the others
 abbrev pub with_told : Option Contribution → List Contribution → List Contribution
 with_told None cs = cs
 with_told (Some c) cs = c ∷ cs
 
--- the contributions in frames: pieces, and what refresh replies tell; any other frame tells nothing
+-- the contributions in frames: pieces, and the pieces in refresh replies; any other frame has no contribution
 abbrev pub contributions : List Frame → List Contribution
 contributions [] = []
 contributions (frames.Piece c ∷ fs) = c ∷ contributions fs
 contributions (frames.RefreshReply r ∷ fs) = with_told (told_by r) (contributions fs)
 contributions (frame ∷ fs) = contributions fs
 
--- the contributions in what was read, where all of it was whole frames
+-- the contributions in the bytes that were read, if all of them are whole frames
 abbrev pub told_by_said : List Frame → Option Fault → ℕ → ℕ → Result (List Contribution) Fault
 told_by_said fs (Some f) offset left = Err f
 told_by_said fs None offset left = if left == 0 then Ok (contributions fs) else Err (fault offset causes.Cut)
@@ -33,6 +33,6 @@ told_by_said fs None offset left = if left == 0 then Ok (contributions fs) else 
 unfoldable pub told_in : List ℕ → Result (List Contribution) Fault
 told_in bytes = let said = stream_said bytes in told_by_said said.frames said.fault said.end.offset (length said.end.rest)
 
--- what a server holds that took a stream's contributions
+-- the data of a server that took a stream's contributions
 unfoldable pub data_told : List ℕ → Result Data Fault
 data_told bytes = told_in bytes >>= λ cs. Ok (data_of cs)

@@ -7,8 +7,8 @@ use crate::store::{Store, join_both};
 use pmg_commit::Piece;
 use std::alloc::{AllocError, Global};
 
-/// What a server has: in the near store what the processes of its own node sealed for one another, in the far store
-/// what the processes of all nodes sealed for those on other nodes.
+/// The two stores of a server. The near store has the commits of the processes of its own node, as these processes read one another. The
+/// far store has the commits of the processes of all nodes, as processes on other nodes read them.
 pub struct Board {
     near: Store,
     far: Store,
@@ -21,7 +21,7 @@ impl Drop for Board {
 }
 
 impl Board {
-    /// A board that has taken nothing. It keeps the allocator.
+    /// Makes an empty board. It keeps the allocator.
     pub fn new(alloc: Global) -> Board
         ensures near { result.near ≡ finite.empty }
         ensures far { result.far ≡ finite.empty }
@@ -32,14 +32,14 @@ impl Board {
         }
     }
 
-    /// The near store, with its levels and reads.
+    /// Returns the near store, with its levels and reads.
     pub fn near(&self) -> &Store
         ensures { result.now ≡ self.now.near }
     {
         &self.near
     }
 
-    /// The far store, with its levels and reads.
+    /// Returns the far store, with its levels and reads.
     pub fn far(&self) -> &Store
         ensures { result.now ≡ self.now.far }
     {
@@ -64,9 +64,9 @@ impl Board {
         self.far.absorb(piece)
     }
 
-    /// Takes the pieces into the near store and those into the far store, all of them or none. It takes time in
-    /// proportion to their entries and to the late entries that are read then, and to the logarithm of what is held. One piece for
-    /// the far store alone, as another node tells it, is taken as it is.
+    /// Takes the pieces into the near store and into the far store, all of them or none. It takes time in proportion to their entries and
+    /// to the late entries that become readable, and to the logarithm of the stored data. A call with only one piece for the far store, as
+    /// a frame of another node brings it, takes the piece directly.
     pub fn absorb_all(&mut self, near: &[Piece], far: &[Piece]) -> Result<(), AllocError>
         ensures near_ok { OnOk result (self.new.near ≡ join_data self.old.near (data_of near.now)) }
         ensures far_ok { OnOk result (self.new.far ≡ join_data self.old.far (data_of far.now)) }
@@ -81,7 +81,7 @@ impl Board {
         join_both(&mut self.near, near_more, &mut self.far, far_more)
     }
 
-    /// A copy, equal to this board.
+    /// Returns a copy, equal to this board.
     pub fn copy(&self) -> Result<Board, AllocError>
         ensures near { IfOk result (λ b. b.near ≡ self.now.near) }
         ensures far { IfOk result (λ b. b.far ≡ self.now.far) }

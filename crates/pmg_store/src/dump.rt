@@ -1,4 +1,4 @@
-//! The text of what a store holds, written with no memory of its own.
+//! The text of a store's content, written without memory of its own.
 ghost use Rattle.std.specs.Prelude.{◌++◌, codes, OnErr, IsSome};
 ghost use Rattle.std.specs.List.{flat_map};
 ghost use Rattle.std.specs.Ordering.{nat_cmp};
@@ -19,7 +19,7 @@ use std::alloc::Global;
 use std::collections::BTreeMap;
 use std::io::Write;
 
-// A value's text after two blanks, as its canonical bytes tell it.
+// Writes a value's text after two blanks, from its canonical bytes.
 fn put_value<W: Write>(writer: &mut WatchedWriter<W>, value: &Value) -> Result<(), WriteFault>
     ensures text { Writes (W.contents writer.old.writer) (W.contents writer.new.writer)
         result (codes "  " ++ value_text (spelling value.now)) }
@@ -86,7 +86,7 @@ fn put_proc_line<W: Write>(
     writer.put_number_between(b" level ", level, b"\n")
 }
 
-// The lines of the process, of which the lane knows.
+// Writes the lines of the process, from its lane.
 fn put_proc<W: Write>(
     writer: &mut WatchedWriter<W>,
     proc: &Proc,
@@ -107,7 +107,7 @@ fn put_proc<W: Write>(
     }
 }
 
-// The lines of the processes, of which the lanes know.
+// Writes the lines of the processes, from their lanes.
 fn put_procs<W: Write>(
     writer: &mut WatchedWriter<W>,
     places: &BTreeMap<Proc, Option<Lane>, Global>,
@@ -125,8 +125,7 @@ fn put_procs<W: Write>(
     Ok(())
 }
 
-/// Writes the dump of what the lanes know, in time in proportion to what they hold. Where the writer fails, a prefix of it was
-/// written.
+/// Writes the dump of the lanes, in time in proportion to their content. If the writer fails, a prefix of the dump was written.
 pub fn dump_lanes<W: Write>(
     writer: &mut WatchedWriter<W>,
     places: &BTreeMap<Proc, Option<Lane>, Global>,

@@ -1,4 +1,4 @@
-//! Why a call that reads, decodes and writes has failed.
+//! The failure of a call that reads, decodes and writes.
 ghost use Rattle.std.specs.Prelude.{◌≡◌};
 ghost use Rattle.pmg_value.specs.declared.refusal.Refusal.TheVariants.{NoMemory};
 ghost use Rattle.pmg_store.specs.declared.failure.Failure.TheVariants.{Refused, Read, Write};
@@ -8,10 +8,10 @@ use pmg_value::{Fault, Refusal, WriteFault};
 use std::alloc::{AllocError, AllocFailed};
 use thiserror::Error;
 
-/// Why a call that reads from readers and writes to a writer has failed.
+/// The failure of a call that reads from readers and writes to a writer.
 #[derive(Clone, Copy, Debug, PartialEq, Eq, Error)]
 pub enum Failure {
-    /// The call was refused: its input is faulty, or an allocation failed.
+    /// The call was refused, because its input is faulty or an allocation failed.
     #[error("refused {0}")]
     Refused(Refusal),
     /// One of several streams is faulty: its number, counted from 1, and its first fault.

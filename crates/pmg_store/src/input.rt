@@ -1,4 +1,4 @@
-//! Input read whole, up to a limit.
+//! Whole input, up to a limit.
 ghost use Rattle.std.specs.Prelude.{◌≡◌, ◌≢◌, ◌<◌, ◌≤◌, ◌+◌, ◌-◌, ◌^◌, min, ◌⊎◌, IfErr, IfOk, IfSome, IsNone, IsSome, OnErr, OnOk, OnSome, is_some, length, take};
 ghost use Rattle.std.specs.Option.{option_copied};
 ghost use Rattle.std.specs.Io.{ReadsAtMost, StartsWith, StopsAt, appended_bytes};
@@ -17,17 +17,17 @@ use thiserror::Error;
 /// The most bytes of input that are read: 64 MiB.
 pub const INPUT_LIMIT: usize = 67_108_864;
 
-/// The most reads that reading input takes: one for each byte, and one that tells the end from a byte too many.
+/// The most reads that reading input takes: one for each byte, and one that distinguishes the end from a byte too many.
 pub const MOST_READS: usize = INPUT_LIMIT + 1;
 
 const CHUNK_LEN: usize = 65_536;
 
-/// The reader failed: why, its `WatchedReader` knows.
+/// The failure of a reader; its `WatchedReader` has the cause.
 #[derive(Clone, Copy, Debug, PartialEq, Eq, Error)]
 #[error("read fault")]
 pub struct ReadFault;
 
-/// A reader that remembers whether it failed, and counts how often it was read.
+/// A reader that remembers whether it failed, and counts its reads.
 #[derive(Drop)]
 pub struct WatchedReader<R> {
     reader: R,
@@ -36,7 +36,7 @@ pub struct WatchedReader<R> {
 }
 
 impl<R: Read> WatchedReader<R> {
-    /// A reader that was not read yet.
+    /// Makes a watched reader without reads.
     pub fn new(reader: R) -> WatchedReader<R>
         ensures reader { result.reader ≡ reader }
         ensures reads { result.reads ≡ 0 }
@@ -49,21 +49,21 @@ impl<R: Read> WatchedReader<R> {
         }
     }
 
-    /// How often it was read.
+    /// Returns the number of reads.
     pub fn reads(&self) -> usize
         ensures { result ≡ self.now.reads }
     {
         self.reads
     }
 
-    /// Whether the reader has failed.
+    /// Returns whether the reader has failed.
     pub fn has_failed(&self) -> bool
         ensures { result ≡ is_some self.now.failure }
     {
         self.failure.is_some()
     }
 
-    /// Why the reader failed, where it has.
+    /// Returns the cause of the reader's failure, if it has failed.
     pub fn failure(&self) -> Option<&io::Error>
         ensures { option_copied result ≡ self.now.failure }
     {
@@ -91,8 +91,8 @@ impl<R: Read> WatchedReader<R> {
 }
 
 impl<R: BufRead> WatchedReader<R> {
-    /// Reads once, no more than the reader shows: appends its bytes up to and including the first such byte to the list, at most so
-    /// many, and says how many; none at the end. Nothing after them is taken from the reader.
+    /// Reads once, only from the bytes that the reader shows. Appends its bytes up to and including the first such byte to the list, at
+    /// most so many, and returns their number; 0 at the end. Later bytes stay in the reader.
     pub fn read_through(
         &mut self,
         byte: u8,
@@ -128,7 +128,7 @@ impl<R: BufRead> WatchedReader<R> {
     }
 }
 
-/// How many bytes stand up to and including the first such byte, or all.
+/// Returns the number of bytes up to and including the first such byte, or of all bytes.
 fn len_through(bytes: &[u8], byte: u8) -> usize
     ensures within { result ≤ length bytes.now }
     ensures some { 0 < length bytes.now → 0 < result }
@@ -140,10 +140,10 @@ fn len_through(bytes: &[u8], byte: u8) -> usize
     }
 }
 
-/// Reads to the end, and keeps what it read: no room is made before the bytes for it are there.
+/// Reads to the end, and returns the bytes. It makes no room for bytes before they have been read.
 ///
-/// More than `INPUT_LIMIT` bytes are refused as `BadFrame` with the cause Input at the limit. Any error of
-/// the reader is a read fault, an interrupted read too. The reader is read at most 67,108,865 times.
+/// Errors: `BadFrame` with the cause Input at the limit if there are more than `INPUT_LIMIT` bytes. A read fault for any error of the
+/// reader, also an interrupted read. The reader is read at most 67,108,865 times.
 pub fn read_input<R: Read>(alloc: Global, reader: &mut WatchedReader<R>) -> Result<Vec<u8>, Failure>
     ensures input { IfSome (R.remaining reader.old.reader)
         (λ bytes. GivesInput (λ input. input.items) result (or_failure (input_of bytes))) }
@@ -185,7 +185,7 @@ fn read_by_chunks<R: Read>(
     unreachable!()
 }
 
-/// The refusal of input over the limit.
+/// Returns the refusal of input over the limit.
 pub fn too_long() -> Failure
     ensures { result ≡ Failure.Refused (Refusal.BadFrame too_much_input) }
 {

@@ -2,10 +2,9 @@ ghost use Rattle.pmg_store.specs.HonestData.{EmptyIsHonest, AbsorbedIsHonest, Jo
 ghost use Rattle.pmg_store.specs.HonestStores.{StoreReadsHonestly, EqualStoresReadAlike};
 ghost use Rattle.pmg_store.specs.Convergence.{Converges, SameInAnyOrder, SameInAnyGrouping, ReadsAlike, PrintsAlike, StreamsPrintAlike, MergesAlike, MergesAsOne, HoldsUnion};
 
-/// The convergence theorem: two servers that have taken the same pieces, in any order, in any grouping and with any
-/// repeats, hold and print the same data: of each process, the core of the union of what the pieces tell of it. However
-/// a store came to be by `Store::new`, `absorb` and `join` (`converges`); and the same for lists of pieces and for
-/// streams.
+/// States the convergence theorem. Two servers that have taken equal sets of pieces, in any order, in any grouping and with any repeats,
+/// hold and print equal data. For each process this is the core of the union of the pieces' knowledge. The theorem holds for any sequence
+/// of `Store::new`, `absorb` and `join` (`converges`), for lists of pieces and for streams.
 pub fn pieces_in_any_order()
     ensures converges { Converges }
     ensures any_order { SameInAnyOrder }
@@ -18,16 +17,16 @@ pub fn pieces_in_any_order()
     ensures union { HoldsUnion }
 {}
 
-/// Of stores that took pieces which are what a process's own commits sealed: they read what its commit left whose
-/// number is their level of it, so that servers at equal levels of a process read alike of it.
+/// States the laws of stores of honest pieces, which a process's own commits sealed. Such a store reads the state after the commit at its
+/// level of the process. Therefore servers at equal levels of a process read equal values.
 pub fn honest_stores()
     ensures store_reads_honestly { StoreReadsHonestly }
     ensures equal_levels_read_alike { EqualStoresReadAlike }
 {}
 
-/// Data that is honest for a process, since what it knows of it is what the process's own commits sealed, stays so
-/// whatever it takes that is honest and whatever the process calls later; it is read honestly at a level that is one of
-/// the process's commits. Levels never fall.
+/// States the laws of data that is honest for a process: all knowledge of the process comes from its own commits. The data stays honest
+/// after it takes honest contributions, and after later calls of the process. Reads are honest at a level that is one of the process's
+/// commits. Levels never fall.
 pub fn honest_data()
     ensures empty { EmptyIsHonest }
     ensures absorbed { AbsorbedIsHonest }

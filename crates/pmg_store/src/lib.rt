@@ -1,4 +1,4 @@
-//! Stores: what is known of all processes from pieces in any order, and what a stream of frames tells.
+//! Stores: the knowledge of all processes from pieces in any order, and the content of a stream of frames.
 #![tactic(auto)]
 
 mod board;

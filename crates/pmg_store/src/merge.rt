@@ -1,4 +1,4 @@
-//! The dump of what several streams tell.
+//! The dump of several streams.
 ghost use Rattle.std.specs.Prelude.{◌≡◌, ◌≢◌, ◌<◌, ◌≤◌, ◌+◌, ◌⊎◌, ℕ, List, map, length, Some, Ok, Err, IfErr, IfSome, IsSome, OnOk};
 ghost use Rattle.pmg_value.specs.Lists.{SameItems};
 ghost use Rattle.pmg_commit.specs.Data.{Data, join_data};
@@ -14,10 +14,10 @@ use pmg_value::{Refusal, WatchedWriter};
 use std::alloc::Global;
 use std::io::{Read, Write};
 
-/// The most streams that are merged.
+/// The most streams that one call merges.
 pub const MAX_STREAMS: usize = 64;
 
-/// Takes the contributions in the stream that the reader gives. Where it fails, some of them were taken.
+/// Takes the contributions in the reader's stream. If it fails, some of them were taken.
 fn take_reader<R: Read>(
     alloc: Global,
     store: &mut Store,
@@ -38,7 +38,7 @@ fn take_reader<R: Read>(
     Ok(())
 }
 
-/// The failure at the stream of that number: a fault is told with the number.
+/// Returns the failure at the stream of that number: a fault has the stream's number.
 fn failure_in(stream: usize, failure: Failure) -> Failure
     ensures value { result ≡ failure_in stream failure }
     ensures read_fault { result ≡ Failure.Read → failure ≡ Failure.Read }
@@ -49,7 +49,7 @@ fn failure_in(stream: usize, failure: Failure) -> Failure
     }
 }
 
-/// A store that took the contributions in the streams that the readers give, one stream after the other.
+/// Returns a store that took the contributions in the readers' streams, one stream after the other.
 fn store_of_streams<R: Read>(
     alloc: Global,
     readers: &mut [WatchedReader<R>],
@@ -73,8 +73,7 @@ fn store_of_streams<R: Read>(
     Ok(all)
 }
 
-/// Takes the contributions in a stream in memory, which is no longer than an input may be. Where it fails, some of them
-/// were taken.
+/// Takes the contributions in a stream in memory, within the limit of an input. If it fails, some of them were taken.
 fn take_input(alloc: Global, store: &mut Store, input: &[u8]) -> Result<(), Failure>
     ensures taken { OnOk result ((d : Data) × (or_failure (data_by_input input.now) ≡ Ok d) × (store.new ≡ join_data store.old d)) }
     ensures fails { IfErr result (λ e. FailsInput e (or_failure (data_by_input input.now))) }
@@ -88,7 +87,7 @@ fn take_input(alloc: Global, store: &mut Store, input: &[u8]) -> Result<(), Fail
     Ok(())
 }
 
-/// A store that took the contributions in the streams, one stream after the other.
+/// Returns a store that took the contributions in the streams, one stream after the other.
 fn store_of_inputs(alloc: Global, inputs: &[Vec<u8>]) -> Result<Store, Failure>
     ensures gives { GivesInput (λ s. s) result (merged (map (λ input. input.items) inputs.now)) }
     ensures no_read_fault { IfErr result (λ e. e ≢ Failure.Read) }
@@ -105,7 +104,7 @@ fn store_of_inputs(alloc: Global, inputs: &[Vec<u8>]) -> Result<Store, Failure>
     Ok(all)
 }
 
-/// What `merge_streams` does, for streams that are in memory.
+/// Does what `merge_streams` does, for streams that are in memory.
 pub fn merge_inputs<W: Write>(
     alloc: Global,
     inputs: &[Vec<u8>],
@@ -123,14 +122,12 @@ pub fn merge_inputs<W: Write>(
     store.dump(writer)
 }
 
-/// Reads several streams of frames to their ends, and then writes the dump of the join of what their contributions
-/// tell. In whatever order the streams come, and however the contributions stand in them, the dump is the same: that
-/// of the streams one after the other as one stream.
+/// Reads several streams of frames to their ends, and then writes the dump of the join of their contributions. The dump does not depend on
+/// the order of the streams, nor on the order of the contributions in them. It equals the dump of the concatenated streams.
 ///
-/// More than 64 streams are refused as TooMany, and none is read. The first fault of the first stream that has one
-/// is told as BadFrame with the stream's number, counted from 1. Any error of a reader is a read fault, and told as one. Nothing is
-/// written before all streams were read without a fault; where the writer fails, a prefix of the dump was written. Each reader is
-/// read at most 67,108,865 times.
+/// Errors: `TooMany` if there are more than 64 streams; then no stream is read. `BadFrame` with the first fault of the first stream that
+/// has one, and the stream's number, counted from 1. A read fault for any error of a reader. Nothing is written before all streams were
+/// read without a fault. If the writer fails, a prefix of the dump was written. Each reader is read at most 67,108,865 times.
 pub fn merge_streams<R: Read, W: Write>(
     alloc: Global,
     readers: &mut [WatchedReader<R>],

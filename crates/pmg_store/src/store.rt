@@ -23,7 +23,7 @@ use std::collections::BTreeMap;
 use std::io::Write;
 use std::marker::Model;
 
-/// What is known of all processes: the core of what the pieces that were taken tell of each.
+/// The knowledge of all processes: for each process, the core of the union of the taken pieces.
 #[derive(Drop)]
 pub struct Store {
     lanes: MapJoin<Proc, Lane>,
@@ -41,7 +41,7 @@ impl Model for Store {
     ghost view = { λ a. data_in a.lanes.table };
 }
 
-/// What is read of a process under a key: the value, and whether the process has ended.
+/// The value of a process under a key, and whether the process has ended.
 #[derive(Clone, Copy)]
 pub struct Look<'a> {
     pub value: Option<&'a Value>,
@@ -74,7 +74,7 @@ impl Join for Store {
 }
 
 impl Store {
-    /// A store that has taken nothing. It keeps the allocator.
+    /// Makes an empty store. It keeps the allocator.
     pub fn new(alloc: Global) -> Store
         ensures { result ≡ finite.empty }
     {
@@ -83,9 +83,9 @@ impl Store {
         }
     }
 
-    /// Takes the piece. It may come in any order, leave gaps, and say again what is known. It takes time in proportion
-    /// to its entries and to the late entries that are read then, and to the logarithm of what is held. Where an
-    /// allocation fails, the store stays as it is.
+    /// Takes the piece. Pieces may come in any order, leave gaps, and repeat known entries. It takes time in proportion to the piece's
+    /// entries and to the late entries that become readable, and to the logarithm of the stored data. If an allocation fails, the store
+    /// stays as it is.
     pub fn absorb(&mut self, piece: &Piece) -> Result<(), AllocError>
         ensures ok { OnOk result (self.new ≡ absorbed self.old piece.now) }
         ensures err { OnErr result (self.new ≡ self.old) }
@@ -93,7 +93,7 @@ impl Store {
         self.take(piece.copy()?)
     }
 
-    /// What `absorb` does, without copies of the entries. Where an allocation fails, the piece is dropped.
+    /// Does what `absorb` does, without copies of the entries. If an allocation fails, the piece is dropped.
     pub fn take(&mut self, piece: Piece) -> Result<(), AllocError>
         ensures ok { OnOk result (self.new ≡ absorbed self.old piece) }
         ensures err { OnErr result (self.new ≡ self.old) }
@@ -102,7 +102,7 @@ impl Store {
         put_change(&mut self.lanes, proc, piece)
     }
 
-    /// A store of these pieces alone, with the allocator of this one.
+    /// Returns a store of only these pieces, with the allocator of this one.
     pub fn of_pieces(&self, pieces: &[Piece]) -> Result<Store, AllocError>
         ensures { IfOk result (λ s. s ≡ data_of pieces.now) }
     {
@@ -113,9 +113,9 @@ impl Store {
         Ok(store)
     }
 
-    /// Takes all that the other store has taken. It takes time in proportion to what the other one holds and to the late
-    /// entries that are read then, and to the logarithm of what this one holds. Where an allocation fails, this one stays
-    /// as it is, and the other one is handed back.
+    /// Takes all pieces that the other store has taken. It takes time in proportion to the other store's content and to the late entries
+    /// that become readable, and to the logarithm of this store's content. If an allocation fails, this store stays as it is, and the other
+    /// one is handed back.
     pub fn join(&mut self, other: Store) -> Result<(), AllocFailed<Store>>
         ensures ok { OnOk result (self.new ≡ join_data self.old other) }
         ensures err { OnErr result (self.new ≡ self.old) }
@@ -129,7 +129,7 @@ impl Store {
         Ok(())
     }
 
-    /// The greatest n such that the commits 1 to n of the process were all taken, 0 if the first was not.
+    /// Returns the greatest n such that the commits 1 to n of the process were all taken, 0 if the first was not.
     pub fn level(&self, proc: &Proc) -> u64
         ensures value { result ≡ level_at self.now proc.now }
         ensures bound { result ≤ MAX_COMMIT }
@@ -140,7 +140,7 @@ impl Store {
         }
     }
 
-    /// Whether the commit of that number of the process was taken.
+    /// Returns whether the commit of that number of the process was taken.
     pub fn taken(&self, proc: &Proc, n: u64) -> bool
         ensures { result ≡ taken_at self.now proc.now n }
     {
@@ -150,8 +150,8 @@ impl Store {
         }
     }
 
-    /// The value of the process under the key: of the entries up to the level, that of the greatest commit,
-    /// and at equal numbers the greater one (PMIx Standard 5.0, PMIx_Get; the level is this project's).
+    /// Returns the value of the process under the key. The entry of the greatest commit up to the level counts, and at equal numbers the
+    /// greater value (PMIx Standard 5.0, PMIx_Get; the level is this project's).
     pub fn read(&self, proc: &Proc, key: &Key) -> Option<&Value>
         ensures { option_map (λ v. spelling v.now) result ≡ read_at self.now proc.now key.now }
     {
@@ -161,8 +161,7 @@ impl Store {
         }
     }
 
-    /// The level of the process once the piece is taken too: it takes time in proportion to the logarithm of what is
-    /// held.
+    /// Returns the level of the process as if the piece were taken too. It takes time in proportion to the logarithm of the stored data.
     pub fn level_with(&self, piece: &Piece, proc: &Proc) -> u64
         ensures value { result ≡ level_at (absorbed self.now piece.now) proc.now }
         ensures bound { result ≤ MAX_COMMIT }
@@ -176,8 +175,8 @@ impl Store {
         }
     }
 
-    /// The value of the process under the key once the piece is taken too: it takes time in proportion to the piece's
-    /// entries and to the late entries that are read then, and to the logarithm of what is held.
+    /// Returns the value of the process under the key as if the piece were taken too. It takes time in proportion to the piece's entries
+    /// and to the late entries that become readable, and to the logarithm of the stored data.
     pub fn read_with<'a>(&'a self, piece: &'a Piece, proc: &Proc, key: &Key) -> Option<&'a Value>
         ensures { option_map (λ v. spelling v.now) result ≡ read_at (absorbed self.now piece.now) proc.now key.now }
     {
@@ -190,7 +189,7 @@ impl Store {
         }
     }
 
-    /// Whether the process has ended once the piece is taken too.
+    /// Returns whether the process has ended, as if the piece were taken too.
     pub fn has_ended_with(&self, piece: &Piece, proc: &Proc) -> bool
         ensures { result ≡ is_some (read_at (absorbed self.now piece.now) proc.now term_key) }
     {
@@ -198,7 +197,7 @@ impl Store {
         value.is_some()
     }
 
-    /// Whether the process has ended: its last commit put the reserved key `pmix.term`, and all up to it were taken (this
+    /// Returns whether the process has ended: its last commit put the reserved key `pmix.term`, and all commits up to it were taken (this
     /// project's key).
     pub fn has_ended(&self, proc: &Proc) -> bool
         ensures { result ≡ is_some (read_at self.now proc.now term_key) }
@@ -207,7 +206,7 @@ impl Store {
         value.is_some()
     }
 
-    /// The value of the process under the key, and whether the process has ended: one look-up of the process for both.
+    /// Returns the value of the process under the key, and whether the process has ended, with one look-up of the process.
     pub fn look(&self, proc: &Proc, key: &Key) -> Look<'_>
         ensures value { option_map (λ v. spelling v.now) result.value ≡ read_at self.now proc.now key.now }
         ensures ended { result.ended ≡ is_some (read_at self.now proc.now term_key) }
@@ -228,16 +227,16 @@ impl Store {
         }
     }
 
-    /// The processes of which something was taken, in their order.
+    /// Returns the processes of the taken pieces, in their order.
     pub fn processes(&self) -> Result<Vec<Proc>, AllocError>
         ensures { IfOk result (λ procs. procs.items ≡ finite.keys self.now) }
     {
         Ok(processes_in(self.lanes.allocator(), self.lanes.places())?)
     }
 
-    /// Writes the dump: for each process of level 1 or more, by namespace and rank, a line with its level; then
-    /// for each key that reads, by its bytes, a line with the value's text and the key. It takes no memory of its own;
-    /// where the writer fails, a prefix of the dump was written.
+    /// Writes the dump. Each process of level 1 or more, by namespace and rank, has a line with its level. Then each key with a value, by
+    /// its bytes, has a line with the value's text and the key. It takes no memory of its own. If the writer fails, a prefix of the dump
+    /// was written.
     pub fn dump<W: Write>(&self, writer: &mut WatchedWriter<W>) -> Result<(), Failure>
         ensures dumps { Dumps (W.contents writer.old.writer) (W.contents writer.new.writer)
             result (Ok (dump self.now)) }
@@ -248,7 +247,7 @@ impl Store {
         Ok(())
     }
 
-    /// A copy, equal to this store.
+    /// Returns a copy, equal to this store.
     pub fn copy(&self) -> Result<Store, AllocError>
         ensures { IfOk result (λ s. s ≡ self.now) }
     {
@@ -258,14 +257,14 @@ impl Store {
     }
 }
 
-/// Whether the piece is of the process.
+/// Returns whether the piece is of the process.
 fn is_of(proc: &Proc, piece: &Piece) -> bool
     ensures { result ≡ is_of proc.now piece.now }
 {
     proc.cmp(piece.proc()).is_eq()
 }
 
-/// Copies of the processes that have lanes, in their order.
+/// Returns copies of the processes that have lanes, in their order.
 fn processes_in(
     alloc: Global,
     places: &BTreeMap<Proc, Option<Lane>, Global>,

@@ -1,4 +1,4 @@
-//! What a stream of frames tells, and its dump.
+//! The contributions in a stream of frames, and their dump.
 ghost use Rattle.std.specs.Prelude.{◌≡◌, ◌≤◌, ◌+◌, ◌⊎◌, [], ◌∷◌, Ok, map, Some, IfErr, IfSome, IsSome, OnOk};
 ghost use Rattle.pmg_wire.specs.Reading.{FailsReading, ReadsAll};
 ghost use Rattle.pmg_join.specs.Joins.{join_all};
@@ -17,7 +17,7 @@ use pmg_wire::Cursor;
 use std::alloc::{AllocError, Global};
 use std::io::{Read, Write};
 
-/// Takes the contribution in the frame: a piece, or what a refresh reply tells. Any other frame tells nothing.
+/// Takes the contribution in the frame: a piece, or the piece in a refresh reply. Any other frame has no contribution.
 fn take_frame(store: &mut Store, frame: Frame) -> Result<(), AllocError>
     ensures { OnOk result (store.new ≡ join_all join_data store.old (map of_contribution (contributions (frame ∷ [])))) }
 {
@@ -35,8 +35,8 @@ fn take_frame(store: &mut Store, frame: Frame) -> Result<(), AllocError>
     }
 }
 
-/// Takes the contributions in a whole stream into the store, each as its frame is decoded. Refused as BadFrame at the
-/// first fault, Cut where the stream ends inside a frame, and as NoMemory: then the store has taken some of them.
+/// Takes the contributions in a whole stream into the store, each as its frame is decoded. Errors: `BadFrame` at the first fault, with Cut
+/// if the stream ends inside a frame; `NoMemory`. After an error the store has taken some of the contributions.
 pub fn take_stream(alloc: Global, store: &mut Store, bytes: &[u8]) -> Result<(), Refusal>
     ensures taken { OnOk result ((d : Data) × (data_told bytes.now ≡ Ok d) × (store.new ≡ join_data store.old d)) }
     ensures fault { IfErr result (λ e. FailsReading e (data_told bytes.now)) }
@@ -51,7 +51,7 @@ pub fn take_stream(alloc: Global, store: &mut Store, bytes: &[u8]) -> Result<(),
     }
 }
 
-/// Whether nothing is left. Refused as Cut at the place of what is left.
+/// Checks that no bytes are left. Errors: Cut at the first remaining byte.
 fn end_of_stream(at: &Cursor<'_>) -> Result<(), Refusal>
     ensures { result ≡ finished (Some at.now) }
 {
@@ -61,8 +61,8 @@ fn end_of_stream(at: &Cursor<'_>) -> Result<(), Refusal>
     Ok(())
 }
 
-/// A store that took the contributions in a whole stream. Refused as BadFrame at the first fault, Cut where
-/// the stream ends inside a frame, and as NoMemory.
+/// Returns a store that took the contributions in a whole stream. Errors: `BadFrame` at the first fault, with Cut if the stream ends inside
+/// a frame; `NoMemory`.
 pub fn store_of_stream(alloc: Global, bytes: &[u8]) -> Result<Store, Refusal>
     ensures { ReadsAll (λ s. s) result (data_told bytes.now) }
 {
@@ -71,13 +71,12 @@ pub fn store_of_stream(alloc: Global, bytes: &[u8]) -> Result<Store, Refusal>
     Ok(store)
 }
 
-/// Reads a stream of frames to its end, and then writes the dump of a store that took its contributions. Frames
-/// that are no pieces are checked like any other, and add nothing.
+/// Reads a stream of frames to its end, and then writes the dump of a store that took its contributions. Other frames than pieces and
+/// refresh replies are checked too, and add nothing.
 ///
-/// A stream with a fault is refused as BadFrame, with the first fault: Input past 67,108,864 bytes, else that
-/// of the frames, else Cut. Any error of the reader is a read fault, and told as one. Nothing is written before the whole
-/// stream was read without a fault; where the writer fails, a prefix of the dump was written. The reader is read at
-/// most 67,108,865 times.
+/// Errors: `BadFrame` with the first fault: Input past 67,108,864 bytes, else the first fault of the frames, else Cut. A read fault for any
+/// error of the reader. Nothing is written before the whole stream was read without a fault. If the writer fails, a prefix of the dump was
+/// written. The reader is read at most 67,108,865 times.
 pub fn dump_stream<R: Read, W: Write>(
     alloc: Global,
     reader: &mut WatchedReader<R>,

@@ -12,7 +12,7 @@ use pmg_frame::{FenceName, Local, State};
 use pmg_value::Proc;
 use std::alloc::AllocError;
 
-/// What comes to be told of a process by the change.
+/// Returns the line of a process that the change adds.
 fn line_of(change: &Change) -> Result<Option<Local>, AllocError>
     ensures { IfOk result (λ l. l ≡ changed_local change.now) }
 {
@@ -28,10 +28,10 @@ fn line_of(change: &Change) -> Result<Option<Local>, AllocError>
 }
 
 impl Table {
-    /// Keeps the fence's name and what becomes known of it, and tells what there was before, by which it can be taken back. An
-    /// entry has to be the process's next of the signature. Where this completes the node's header, that waits to be taken. Of an
-    /// old fence an entry is counted, and nothing else is kept. Nothing is forgotten yet: that is a call of its own, `forget`,
-    /// which cannot be taken back.
+    /// Applies the change to the fence, and keeps its name. Returns the earlier state, by which the change can be taken back. An entry has
+    /// to be the process's next of the signature. If the change completes the node's header, this header waits to be taken. For an old
+    /// fence an entry is counted, and nothing else is kept. Nothing is forgotten yet: `forget` is a separate call, which cannot be taken
+    /// back.
     pub fn note<'a>(
         &mut self,
         name: &'a FenceName,
@@ -52,7 +52,7 @@ impl Table {
         })
     }
 
-    /// The process ends, as `gone` tells, and what there was before is told, by which it can be taken back.
+    /// Ends the process, as `gone` does, and returns the earlier state, by which the end can be taken back.
     pub fn end(&mut self, proc: &Proc, level: u64) -> Result<TableUndo<'static>, AllocError>
         requires { level ≤ MAX_COMMIT }
         ensures before { IfOk result (λ b. table_back self.new b ≡ self.old) }
@@ -81,8 +81,7 @@ impl Table {
         }
     }
 
-    /// Takes a change back, by what there was before; of the own headers that wait, only so many are left as waited then. It
-    /// takes no memory.
+    /// Takes a change back, by the earlier state. The own headers that wait are cut to the number that waited then. It takes no memory.
     pub fn rollback(&mut self, before: TableUndo<'_>)
         requires { CanRollTableBack self.old before }
         ensures { self.new ≡ table_back self.old before.entry }

@@ -1,4 +1,4 @@
-//! What a node asks of its table.
+//! The queries of a node to its table.
 ghost use Rattle.std.specs.Prelude.{◌≡◌, ◌==◌, IfOk, is_some};
 ghost use Rattle.std.specs.FinMap as finite;
 ghost use Rattle.std.specs.List.{list_any};
@@ -16,7 +16,7 @@ use pmg_frame::{FenceName, Header};
 use pmg_value::{NodeId, Proc};
 use std::alloc::AllocError;
 
-/// Whether the header of the node of that index is there.
+/// Returns whether the header of the node of that index is known.
 fn has_told(fence: Option<&Fence>, node: u32) -> bool
     ensures { result ≡ is_some (finite.get (known_fence (option_map (λ f. f.now) fence.entry)).headers node) }
 {
@@ -27,15 +27,15 @@ fn has_told(fence: Option<&Fence>, node: u32) -> bool
 }
 
 impl Table {
-    /// Whether the table has the fence's name.
+    /// Returns whether the table has the fence's name.
     pub fn has_name(&self, name: &FenceName) -> bool
         ensures { result ≡ has_name self.now.fences name.now }
     {
         self.fence(name.signature(), name.instance()).is_some()
     }
 
-    /// The node's own header of a fence whose name is there, once it exists. What is asked for takes memory in proportion to
-    /// its lines and to its name.
+    /// Returns the node's own header of a fence in the table, as soon as it exists. The result takes memory in proportion to its lines and
+    /// to its name.
     pub fn own_header(&self, name: &FenceName) -> Result<Option<Header>, AllocError>
         ensures { IfOk result (λ o. o ≡ option_map (header self.now.node name.now)
             (present self.now.jobs self.now.node self.now.fences name.now)) }
@@ -50,14 +50,15 @@ impl Table {
         }
     }
 
-    /// Whether one of these is at home at the node.
+    /// Returns whether one of the processes is at home at the node.
     fn has_own(&self, procs: &[Proc]) -> bool
         ensures { result ≡ list_any (λ p. home_of self.now.jobs p == self.now.node) procs.now }
     {
         procs.iter().any(|proc| self.is_own(proc))
     }
 
-    /// Whether the node's header of the fence is there: the own one once it exists, and another one once it has come.
+    /// Returns whether the node's header of the fence is known: the own header as soon as it exists, another node's header as soon as it
+    /// has come.
     pub fn has_header(&self, name: &FenceName, node: NodeId) -> bool
         ensures { result ≡ is_some (header_at self.now.jobs self.now.node self.now.fences name.now node) }
     {
@@ -73,7 +74,7 @@ impl Table {
         whole
     }
 
-    /// How the process stands to the fence, as the header of its home tells, where that is there and lists it.
+    /// Returns the entry of the process in the header of its home, if this header is known and lists the process.
     pub fn told_of(&self, name: &FenceName, proc: &Proc) -> Option<Entry>
         ensures { result ≡ told_of self.now.jobs self.now.node self.now.fences name.now proc.now }
     {

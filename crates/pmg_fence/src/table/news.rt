@@ -1,4 +1,4 @@
-//! The node's own headers, as they come to exist.
+//! The node's own headers that begin to exist.
 ghost use Rattle.std.specs.Prelude.{◌≡◌, ◌&&◌, nat_le, ◌++◌, List, Some, length, IsTrue, IfOk, OnOk, OnErr, is_some};
 ghost use Rattle.std.specs.FinMap as finite;
 ghost use Rattle.std.specs.List.{flat_map};
@@ -22,7 +22,7 @@ use pmg_value::{NodeId, Proc};
 use std::alloc::AllocError;
 use std::collections::VecDeque;
 
-/// The participants at home at the node, in their order.
+/// Returns the participants at home at the node, in their order.
 fn own_participants(
     registry: &Registry,
     node: NodeId,
@@ -60,7 +60,7 @@ fn keep_own(
 }
 
 impl Table {
-    /// How the own process stands to the fence, where something else has come to be told of a process.
+    /// Returns the entry of the own process in the fence, with the line in place of its process's entry.
     fn entry_now(&self, fence: Option<&Fence>, line: Option<&Local>, proc: &Proc) -> Option<Entry>
         ensures { result ≡ instead (option_map (λ l. l.now) line.entry)
             (entry_with (known_fence (option_map (λ f. f.now) fence.entry)) self.now.fences.ends) proc.now }
@@ -74,14 +74,14 @@ impl Table {
         }
     }
 
-    /// Whether so many entered the fence or ended that there may be something to tell of each of these, with one to come.
+    /// Returns whether enough processes entered the fence or ended that each of these may have an entry, with one more to come.
     fn may_be_told(&self, own: &[Proc], fence: Option<&Fence>) -> bool
         ensures { result ≡ nat_le (length own.now) (most_told (known_fence (option_map (λ f. f.now) fence.entry)) self.now.fences.ends) }
     {
         own.len() <= count_in(fence) + self.ends.len() + 1
     }
 
-    /// Whether there is something to tell of each of these.
+    /// Returns whether each of these has an entry.
     fn are_told(&self, own: &[Proc], fence: Option<&Fence>) -> bool
         ensures { result ≡ is_some (collected_locals (entry_with (known_fence (option_map (λ f. f.now) fence.entry)) self.now.fences.ends) own.now) }
     {
@@ -93,7 +93,7 @@ impl Table {
         true
     }
 
-    /// What there is to tell of these, once there is something to tell of each.
+    /// Returns the lines of these processes, as soon as each has an entry.
     fn lines(
         &self,
         own: &[Proc],
@@ -116,14 +116,14 @@ impl Table {
         Ok(Some(lines))
     }
 
-    /// Whether the own header is there of a fence that is looked up, whose own participants these are.
+    /// Returns whether the own header of a found fence exists, given its own participants.
     fn is_present(&self, own: &[Proc], fence: Option<&Fence>) -> bool
         ensures { result ≡ (is_some fence.entry && is_some (told_locals (entry_with (known_fence (option_map (λ f. f.now) fence.entry)) self.now.fences.ends) own.now)) }
     {
         fence.is_some() && !own.is_empty() && self.are_told(own, fence)
     }
 
-    /// The own header of the fence, once it exists.
+    /// Returns the own header of the fence, as soon as it exists.
     pub(crate) fn header_with(
         &self,
         own: &[Proc],
@@ -146,7 +146,7 @@ impl Table {
         Ok(Some(Header::from_checked(self.node, name, lines)))
     }
 
-    /// The own header that comes to exist once the process of the line stands to the fence so.
+    /// Returns the own header that begins to exist when the process of the line has this entry in the fence.
     fn news(
         &self,
         own: &[Proc],
@@ -176,7 +176,7 @@ impl Table {
         }
     }
 
-    /// The same, with the own participants that are kept, or that are looked up now.
+    /// Does what `news` does, with the kept own participants, or else with a new look-up.
     fn news_of(
         &self,
         signature: &Signature,
@@ -196,7 +196,7 @@ impl Table {
         }
     }
 
-    /// The same where the instance is not old: of an old one nothing is told.
+    /// Does what `news_of` does for an instance that is not old; an old one has no header.
     fn news_now(
         &self,
         signature: &Signature,
@@ -213,8 +213,8 @@ impl Table {
         Ok(self.news_of(signature, instance, line)?)
     }
 
-    /// Keeps what becomes known of the fence, by which the process of the line stands to it so; and tells what the fences of
-    /// its signature were before, if it had any. Nothing is forgotten yet.
+    /// Applies the change to the fence, with the line as the new entry of its process, and returns the earlier state of the signature's
+    /// fences, if it had any. Nothing is forgotten yet.
     pub(crate) fn change(
         &mut self,
         signature: &Signature,
@@ -242,7 +242,7 @@ impl Table {
         }
     }
 
-    /// The own header of the fence that comes to exist once the process of the line has ended, who had not entered it.
+    /// Returns the own header of the fence that begins to exist when the process of the line has ended without an entry into the fence.
     fn news_at_end(
         &self,
         signature: &Signature,
@@ -261,7 +261,7 @@ impl Table {
         Ok(self.news_of(signature, instance, Some(line))?)
     }
 
-    /// Adds those of the fences of one signature.
+    /// Adds the own headers of one signature's fences that begin to exist by the end.
     fn add_news(
         &self,
         news: &mut VecDeque<Header>,
@@ -281,7 +281,7 @@ impl Table {
         Ok(())
     }
 
-    /// Those of all fences, in the order of their names.
+    /// Returns the own headers of all fences that begin to exist by the end, in the order of their names.
     pub(crate) fn all_news(&self, line: &Local) -> Result<VecDeque<Header>, AllocError>
         requires { IsTrue (is_level line.now.level) }
         ensures { IfOk result (λ q. q.items ≡ flat_map (ended_told self.now line.now) (names_of self.now.fences)) }
