@@ -107,7 +107,7 @@ impl Daemon {
     }
 
     /// Gets a key of the target for the process (PMIx Standard 5.0, PMIx_Get): `value` gives the value; or the process waits. Mode 0
-    /// waits, 1 looks only at the data of the node (PMIX_IMMEDIATE), 2 asks the target's node anew (PMIX_GET_REFRESH_CACHE). Errors:
+    /// waits, 1 looks only at the data of the node, 2 asks the target's node anew (PMIX_GET_REFRESH_CACHE). Errors:
     /// `BadParam` if a name, the key or the mode is invalid; `NotFound`; `OutsideScope`; the node's refusals of the get; `NoMemory`.
     pub fn get(
         &mut self,
