@@ -1,6 +1,6 @@
 //! A node as the program that runs it holds it: the calls of its processes, the frames that it has to send, and what its last act
 //! joined. `World`, `Desk` and `Link` keep frames in lists of their own, so they are built over `Server`.
-ghost use Rattle.std.specs.Prelude.{◌≡◌, ◌∷◌, [], None, Some, IfOk, IfSome, IsNone};
+ghost use Rattle.std.specs.Prelude.{◌≡◌, ◌∷◌, [], true, IfOk, IfSome, IsNone};
 ghost use Rattle.std.specs.Option.{option_map};
 ghost use Rattle.std.specs.Result.{result_map_both};
 ghost use Rattle.pmg_value.specs.CheckOrder.{first_of};
@@ -145,11 +145,13 @@ impl Node {
     {
         self.joined = Joined::nothing();
         let joined = joined_by(frame)?;
-        let delivery = self.server.deliver(frame, &mut self.outbox)?;
-        if delivery == Delivery::Taken {
-            self.joined = joined;
+        match self.server.deliver(frame, &mut self.outbox)? {
+            Delivery::Taken => {
+                self.joined = joined;
+                Ok(Delivery::Taken)
+            }
+            Delivery::Ignored => Ok(Delivery::Ignored),
         }
-        Ok(delivery)
     }
 
     /// Asks other nodes again for what is missing here (this project's call). Errors: `NoMemory`.
