@@ -1,12 +1,9 @@
 use Rattle.std.proofs.Common.{Ok, refl, subst, ◌∙◌}
 use Rattle.pmg_value.specs.declared.process.Proc.{Proc}
-use Rattle.pmg_scope.specs.declared.scope.Reach.TheVariants as reach
-use Rattle.pmg_pset.specs.Sets.{host}
 use Rattle.pmg_node.specs.Acting.{joins_in}
 use Rattle.pmg_node.specs.Nodes.{Node, Acts}
 use Rattle.pmg_node.specs.Replies.{committed_reply}
-use Rattle.pmg_node_model.specs.Acts.{Act, Reply, Request}
-use Rattle.pmg_node_model.specs.Holdings.{sealer_of}
+use Rattle.pmg_node_model.specs.Acts.{Act, Reply}
 use Rattle.pmg_node.proofs.NodeActs.{sealed}
 use Rattle.pmg_node.proofs.ReplyLemmas.{sealed_joins_are}
 use Rattle.pmg_node.proofs.node.Node.commit.Goals as goal

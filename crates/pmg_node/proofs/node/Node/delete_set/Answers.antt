@@ -6,7 +6,6 @@ use Rattle.pmg_node.specs.Acting.{joins_in}
 use Rattle.pmg_node.specs.Nodes.{Node, Acts}
 use Rattle.pmg_node.specs.Replies.{defined_reply}
 use Rattle.pmg_node_model.specs.Acts.{Act, Reply, Request}
-use Rattle.pmg_node_model.specs.Holdings.{sealer_of}
 use Rattle.pmg_node.proofs.NodeActs.{sealed}
 use Rattle.pmg_node.proofs.ReplyLemmas.{sealed_joins_are, sets_joined}
 use Rattle.pmg_node.proofs.node.Node.delete_set.Goals as goal

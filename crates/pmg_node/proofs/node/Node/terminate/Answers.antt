@@ -1,7 +1,6 @@
 use Rattle.std.proofs.Common.{Ok, refl, subst, ◌∙◌}
 use Rattle.pmg_value.specs.declared.process.Proc.{Proc}
 use Rattle.pmg_scope.specs.declared.scope.Reach.TheVariants as reach
-use Rattle.pmg_pset.specs.Sets.{host}
 use Rattle.pmg_node.specs.Acting.{joins_in}
 use Rattle.pmg_node.specs.Nodes.{Node, Acts}
 use Rattle.pmg_node.specs.Replies.{ended_reply}

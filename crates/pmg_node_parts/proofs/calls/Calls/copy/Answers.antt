@@ -1,6 +1,4 @@
-use Rattle.std.proofs.Common.{List, sym, subst, ◌∙◌}
-use Rattle.pmg_value.specs.declared.process.Proc.{Proc}
-use Rattle.pmg_node_parts.specs.declared.call.Call.{Call}
+use Rattle.std.proofs.Common.{sym, subst, ◌∙◌}
 use Rattle.pmg_node_parts.proofs.CopiedCalls.{IsCopied, copied_first, copied_next, copied_fresh, copied_all}
 use Rattle.pmg_node_parts.proofs.calls.Calls.copy.Goals as goal
 
