@@ -1,4 +1,4 @@
-use Rattle.std.proofs.Common.{rules, ◌≡◌, false, Err}
+use Rattle.std.proofs.Common.{rules, ◌≡◌, false, Err, ◌∙◌}
 use Rattle.pmg_node.specs.Acting.{act_of}
 use Rattle.pmg_node.specs.Servers.{IsAnswered}
 use Rattle.pmg_node.specs.declared.act.Acted.{Acted}
@@ -16,4 +16,4 @@ pub returns-in-Err-2-clause-joined : goal.returns-in-Err-2-clause-joined
 returns-in-Err-2-clause-joined c =
     let other : is_memory c.in-Err.refusal ≡ false = search rules in
     let told : IsAnswered {X = Acted} (Err c.in-Err.refusal) = is_answered c.in-Err.refusal other in
-    refused_joins c.args.node.now (act_of c.args.act.now) c.in-Err.refusal (due_told c.args.node.now (act_of c.args.act.now) (Err c.in-Err.refusal) told c.in-Err.ensures.reply)
+    c.nothing.ensures ∙ refused_joins c.args.node.now (act_of c.args.act.now) c.in-Err.refusal (due_told c.args.node.now (act_of c.args.act.now) (Err c.in-Err.refusal) told c.in-Err.ensures.reply)
